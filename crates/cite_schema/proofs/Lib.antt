@@ -1,0 +1,10 @@
+pub mod Answered
+pub mod Arranging
+pub mod Fitting
+pub mod Meeting
+pub mod Names
+pub mod NumberTexts
+pub mod Orders
+pub mod Rising
+pub mod TableTexts
+pub mod WellNamed

@@ -1,0 +1,10 @@
+pub mod formers
+pub mod Values
+pub mod Numbers
+pub mod Headings
+pub mod Conditions
+pub mod Tables
+pub mod Answers
+pub mod Layout
+pub mod Queries
+pub mod TableTexts
