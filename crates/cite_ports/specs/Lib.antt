@@ -1,0 +1,2 @@
+pub mod MemoryPorts
+pub mod Ports
