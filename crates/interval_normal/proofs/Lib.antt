@@ -1,0 +1,10 @@
+pub mod Crossing
+pub mod Gaps
+pub mod Joining
+pub mod Lone
+pub mod Meeting
+pub mod Order
+pub mod Places
+pub mod Prefixes
+pub mod Search
+pub mod Unique
