@@ -1,0 +1,4 @@
+pub mod MemberLaws
+pub mod ListLaws
+pub mod BodyLaws
+pub mod NameLaws
