@@ -1,0 +1,13 @@
+// Laws of normal forms.
+ghost use Rattle.subset_query.specs.FormLaws.{SettledFormsAreCanonical, QueriesHaveOneForm};
+
+/// Settled forms of a schema are equal exactly where they give the same bytes on every table.
+pub fn settled_forms_are_canonical()
+    ensures { SettledFormsAreCanonical }
+{}
+
+/// Of two queries the settled forms that give their bytes are equal exactly where the queries give the same bytes on
+/// every table. So the form names what is asked for, however it was written.
+pub fn queries_have_one_form()
+    ensures { QueriesHaveOneForm }
+{}
