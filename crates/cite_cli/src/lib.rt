@@ -1,0 +1,23 @@
+//! The program's commands, over a source and a sink whose content and faults a contract can name.
+//!
+//! `run` reads the words, takes the input, reads the table of its lines, and writes the result of the query that the
+//! words ask, or the first rule that the input breaks. Its one clause tells, for each status, what was taken and
+//! written and why: the definitions stand in `specs/`, from `Run` down to `Records`.
+#![tactic(auto)]
+
+mod chosen;
+mod command;
+mod header;
+mod input;
+mod items;
+mod lines;
+mod output;
+mod range;
+mod records;
+mod select;
+mod table;
+
+pub use command::run;
+
+#[cfg(test)]
+mod tests;
