@@ -389,6 +389,3 @@ fn all_pass_in(rule: ValueRule, conds: &[Cond]) -> bool
     }
     true
 }
-
-#[cfg(test)]
-mod tests;

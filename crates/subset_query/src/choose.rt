@@ -115,6 +115,3 @@ fn copied_item(item: &Item) -> Result<Item, NoMemory>
     };
     Ok(Item { label, what })
 }
-
-#[cfg(test)]
-mod tests;

@@ -31,6 +31,3 @@ pub use form::{ColumnSet, Normal};
 pub use laws::{queries_have_one_form, settled_forms_are_canonical};
 pub use normal_form::normal;
 pub use settle::settle_form;
-
-#[cfg(test)]
-mod tests;

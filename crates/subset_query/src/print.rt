@@ -217,6 +217,3 @@ fn write_direction(out: &mut String, along: &Dir) -> Result<(), NoMemory>
     }
     Ok(())
 }
-
-#[cfg(test)]
-mod tests;
