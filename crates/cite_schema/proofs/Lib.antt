@@ -5,6 +5,7 @@ pub mod Meeting
 pub mod Names
 pub mod NumberTexts
 pub mod Orders
+pub mod Keys
 pub mod Rising
 pub mod TableTexts
 pub mod WellNamed

@@ -1,7 +1,8 @@
 -- What a header record and lines spell: read one after the other, at most one table, and none where a key comes twice.
-use Rattle.std.proofs.Common.{◌≡◌, ◌≢◌, ℕ, ℤ, zero, suc, ◌<◌, ◌+◌, Bool, true, false, ◌&&◌, List, [], ◌∷◌, ◌++◌, Option, Some, None, map, length, take, get_or, slice_get, refl, sym, ap, ◌∙◌, subst, add-one, IsPermutation}
-use Rattle.std.specs.Prelude.{option_map, nat_le, if◌then◌else◌}
-use Rattle.std.specs.List.{AllByRecursion, list_all}
+use Rattle.std.proofs.Common.{◌≡◌, ◌≢◌, ℕ, ℤ, zero, suc, ◌<◌, ◌+◌, Bool, true, false, ◌&&◌, List, [], ◌∷◌, ◌++◌, Option, Some, None, map, length, take, get_or, slice_get, refl, sym, ap, ◌∙◌, subst, add-one, arith, IsPermutation}
+use Rattle.std.specs.Prelude.{option_map, nat_le, is_none, if◌then◌else◌}
+use Rattle.std.specs.List.{AllByRecursion, list_all, position, position_or_len}
+use Rattle.std.proofs.lemmas.Bool.{lt-ltb, le-ltb}
 use Rattle.std.specs.declared.cmp.Ordering.TheVariants.{Equal}
 use Rattle.std.proofs.lemmas.List.Elements.{recursion_from_All, All-from_recursion}
 use Rattle.std.proofs.lemmas.List.Sorted.{All-permutation}
@@ -14,7 +15,7 @@ use Rattle.cite_schema.specs.Values.{is_text, is_value_of}
 use Rattle.cite_schema.specs.Numbers.{number_of}
 use Rattle.cite_schema.specs.Headings.{is_heading}
 use Rattle.cite_schema.specs.Tables.{fits, is_short, is_short_row, key_cmp, is_table}
-use Rattle.cite_schema.specs.TableTexts.{before, all_some, passing, column_in, header_of, cell_of, row_of, IsTableOf, SpellsOnce, SpellsTable}
+use Rattle.cite_schema.specs.TableTexts.{before, all_some, passing, column_in, header_of, cell_of, cells_in, bad_cell_in, row_of, IsTableOf, SpellsOnce, SpellsTable}
 use Rattle.cite_schema.proofs.NumberTexts.{number_is}
 use Rattle.cite_schema.proofs.Rising.{Differ, and_true, differ_from_rises, one_rearrangement}
 use Rattle.cite_schema.proofs.Arranging.{arranged, arranged_moves, arranged_rises}
@@ -93,6 +94,46 @@ cell_stop [] fs i c f at there none = absurd (cc)
 cell_stop (d ∷ ds) [] i c f at there none = absurd (cc)
 cell_stop (d ∷ ds) (h ∷ hs) zero c f at there none = let e : d ≡ c = cc in let g : h ≡ f = cc in rw (e, g, none) refl
 cell_stop (d ∷ ds) (h ∷ hs) (suc i) c f at there none = rw (cell_stop ds hs i c f at there none) (before_none (cell_of d.kind h))
+
+-- the first field that says no value is the bad cell
+pub first_bad : (cs : List Column) (fs : List (List ℕ)) (i : ℕ) (c : Column) (f : List ℕ) (vs : List Value) → slice_get cs i ≡ Some c → slice_get fs i ≡ Some f → cell_of c.kind f ≡ None → row_of (take i cs) (take i fs) ≡ Some vs
+    → (position_or_len is_none (cells_in cs fs) ≡ i) × (i < length (cells_in cs fs))
+first_bad [] fs i c f vs at there none so = absurd (cc)
+first_bad (d ∷ ds) [] i c f vs at there none so = absurd (cc)
+first_bad (d ∷ ds) (h ∷ hs) zero c f vs at there none so = let e : d ≡ c = cc in let g : h ≡ f = cc in rw (e, g, none) (refl, omega arith)
+first_bad (d ∷ ds) (h ∷ hs) (suc i) c f vs at there none so =
+    let (z, zs, first, rest, e) = before_some (cell_of d.kind h) (row_of (take i ds) (take i hs)) vs so in
+    let (here, within) = first_bad ds hs i c f zs at there none rest in
+    rw first (omega (arith, here), omega (arith, within))
+
+found_at : {A : Type 0} (p : A → Bool) (xs : List A) (i : ℕ) → position_or_len p xs ≡ i → i < length xs → position p xs ≡ Some i
+found_at p xs i at within = rw at (rw (lt-ltb i (length xs) within) refl)
+
+pub bad_cell_at : (cs : List Column) (fs : List (List ℕ)) (i : ℕ) (c : Column) (f : List ℕ) (vs : List Value) → slice_get cs i ≡ Some c → slice_get fs i ≡ Some f → cell_of c.kind f ≡ None → row_of (take i cs) (take i fs) ≡ Some vs
+    → bad_cell_in cs fs ≡ Some i
+bad_cell_at cs fs i c f vs at there none so =
+    let (here, within) = first_bad cs fs i c f vs at there none so in
+    found_at is_none (cells_in cs fs) i here within
+
+-- where the line spells a row, it has the width of the columns
+pub row_width : (cs : List Column) (fs : List (List ℕ)) (row : List Value) → row_of cs fs ≡ Some row → length fs ≡ length cs
+row_width [] [] row so = refl
+row_width [] (f ∷ fs) row so = absurd (cc)
+row_width (c ∷ cs) [] row so = absurd (cc)
+row_width (c ∷ cs) (f ∷ fs) row so = let (z, zs, first, rest, e) = before_some (cell_of c.kind f) (row_of cs fs) row so in ap suc (row_width cs fs zs rest)
+
+none_bad : (cs : List Column) (fs : List (List ℕ)) (row : List Value) → row_of cs fs ≡ Some row → position_or_len is_none (cells_in cs fs) ≡ length (cells_in cs fs)
+none_bad [] [] row so = refl
+none_bad [] (f ∷ fs) row so = absurd (cc)
+none_bad (c ∷ cs) [] row so = absurd (cc)
+none_bad (c ∷ cs) (f ∷ fs) row so = let (z, zs, first, rest, e) = before_some (cell_of c.kind f) (row_of cs fs) row so in let more = none_bad cs fs zs rest in rw first (omega (arith, more))
+
+found_none : {A : Type 0} (p : A → Bool) (xs : List A) → position_or_len p xs ≡ length xs → position p xs ≡ None
+found_none p xs at = rw at (rw (le-ltb (length xs) (length xs) (omega arith)) refl)
+
+-- and no bad cell
+pub row_cells : (cs : List Column) (fs : List (List ℕ)) (row : List Value) → row_of cs fs ≡ Some row → bad_cell_in cs fs ≡ None
+row_cells cs fs row so = found_none is_none (cells_in cs fs) (none_bad cs fs row so)
 
 -- a line of another width spells no row
 pub other_width : (cs : List Column) (fs : List (List ℕ)) → length cs ≢ length fs → row_of cs fs ≡ None

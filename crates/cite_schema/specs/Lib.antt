@@ -4,6 +4,7 @@ pub mod Numbers
 pub mod Headings
 pub mod Conditions
 pub mod Tables
+pub mod Keys
 pub mod Answers
 pub mod Layout
 pub mod Queries

@@ -1,6 +1,6 @@
 -- Which columns a header record names, and which table the lines under it spell.
-use Rattle.std.specs.Prelude.{◌≡◌, ◌-◌, ◌&&◌, ℕ, Bool, IsTrue, List, [], ◌∷◌, Option, Some, None, option_map, map, length, take, codes, nat_eq, nat_le, if◌then◌else◌, IsPermutation}
-use Rattle.std.specs.List.{ends_with}
+use Rattle.std.specs.Prelude.{◌≡◌, ◌-◌, ◌&&◌, ℕ, Bool, IsTrue, List, [], ◌∷◌, Option, Some, None, option_map, map, length, take, codes, nat_eq, nat_le, is_none, if◌then◌else◌, IsPermutation}
+use Rattle.std.specs.List.{ends_with, position}
 use Rattle.cite_schema.specs.declared.value.Kind.{Kind}
 use Rattle.cite_schema.specs.declared.value.Kind.TheVariants as kinds
 use Rattle.cite_schema.specs.declared.value.Value.{Value}
@@ -45,6 +45,15 @@ header_of fields = passing is_heading (all_some (map column_in fields))
 abbrev pub cell_of : Kind → List ℕ → Option Value
 cell_of kinds.Int field = option_map Int (number_of field)
 cell_of kinds.Text field = if is_text field && nat_le (length field) 65535 then Some (Text field) else None
+
+-- what each field says in its column
+abbrev pub cells_in : List Column → List (List ℕ) → List (Option Value)
+cells_in (c ∷ cs) (f ∷ fs) = cell_of c.kind f ∷ cells_in cs fs
+cells_in _ _ = []
+
+-- the place of the first column whose field says no value there
+abbrev pub bad_cell_in : List Column → List (List ℕ) → Option ℕ
+bad_cell_in columns fields = position (λ cell. is_none cell) (cells_in columns fields)
 
 -- the row that a line spells: one field for each column, each by its column's kind
 abbrev pub row_of : List Column → List (List ℕ) → Option (List Value)

@@ -1,9 +1,9 @@
 -- The tables of a schema: rows that fit its columns, in the order of their keys.
 use Rattle.std.specs.Prelude.{Bool, true, false, ◌&&◌, List, [], ◌∷◌, Option, Some, None, length, nat_le, slice_get}
-use Rattle.std.specs.List.{list_all}
+use Rattle.std.specs.List.{list_all, list_any}
 use Rattle.std.specs.declared.cmp.Ordering.{Ordering}
 use Rattle.std.specs.declared.cmp.Ordering.TheVariants.{Less, Equal, Greater}
-use Rattle.std.specs.Ordering.{is_lt}
+use Rattle.std.specs.Ordering.{is_lt, is_eq}
 use Rattle.cite_schema.specs.Values.{value_cmp, is_value_of}
 use Rattle.cite_schema.specs.declared.value.Value.{Value}
 use Rattle.cite_schema.specs.declared.value.Value.TheVariants.{Int, Text}
@@ -34,6 +34,10 @@ cell_cmp (Some a) (Some b) = value_cmp a b
 -- the order of rows by their keys
 abbrev pub key_cmp : List Value → List Value → Ordering
 key_cmp r t = cell_cmp (slice_get r 0) (slice_get t 0)
+
+-- one of the rows has the key of the row
+abbrev pub has_key : List (List Value) → List Value → Bool
+has_key rows row = list_any (λ r. is_eq (key_cmp row r)) rows
 
 -- of each two neighbours the first comes before the second
 abbrev pub rises : {X : Type 0} → (X → X → Bool) → List X → Bool
