@@ -389,3 +389,6 @@ fn all_pass_in(rule: ValueRule, conds: &[Cond]) -> bool
     }
     true
 }
+
+#[cfg(test)]
+mod tests;

@@ -115,3 +115,6 @@ fn copied_item(item: &Item) -> Result<Item, NoMemory>
     };
     Ok(Item { label, what })
 }
+
+#[cfg(test)]
+mod tests;

@@ -166,3 +166,6 @@ fn points_among<P: KindPoint>(alloc: Global, values: &[Value]) -> Result<List<P>
     }
     Ok(points)
 }
+
+#[cfg(test)]
+mod tests;

@@ -21,6 +21,8 @@ mod form;
 mod kind_point;
 mod laws;
 mod normal_form;
+#[cfg(test)]
+mod notation;
 mod order;
 mod print;
 mod same;
@@ -31,3 +33,6 @@ pub use form::{ColumnSet, Normal};
 pub use laws::{queries_have_one_form, settled_forms_are_canonical};
 pub use normal_form::normal;
 pub use settle::settle_form;
+
+#[cfg(test)]
+mod tests;

@@ -217,3 +217,6 @@ fn write_direction(out: &mut String, along: &Dir) -> Result<(), NoMemory>
     }
     Ok(())
 }
+
+#[cfg(test)]
+mod tests;

@@ -39,3 +39,6 @@ pub fn settle_form(
     let order = needed_order(alloc, items.as_slice(), order.as_slice(), fixed.as_slice())?;
     Ok(Normal::Some { sets, items, order })
 }
+
+#[cfg(test)]
+mod tests;
