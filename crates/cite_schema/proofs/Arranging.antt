@@ -1,5 +1,5 @@
 -- A list without two equal elements has a rearrangement that rises.
-use Rattle.std.proofs.Common.{◌≡◌, ◌≢◌, suc, Bool, true, false, cond, List, [], ◌∷◌, refl, ap, ◌∙◌, arith, IsPermutation}
+use Rattle.std.proofs.Common.{◌≡◌, ◌≢◌, suc, Bool, true, false, cond, List, [], ◌∷◌, refl, ap, ◌∙◌, arith, filter, IsPermutation}
 use Rattle.std.specs.List.{AllByRecursion}
 use Rattle.std.specs.List.Sorted.{IsStrictlySortedBy}
 use Rattle.std.specs.Cmp.{IsTotalOrder}
@@ -36,6 +36,38 @@ module _ {X : Type 0} (R : X → X → Ordering) (total : IsTotalOrder R) where
   unfolding arranged
   arranged_moves [] = IsPermutation-refl []
   arranged_moves (x ∷ xs) = IsPermutation-trans (x ∷ xs) (x ∷ arranged xs) (put_in x (arranged xs)) (IsPermutation-cons x xs (arranged xs) (arranged_moves xs)) (put_moves x (arranged xs))
+
+  kept_turn : (p : X → Bool) (x y : X) (ys : List X) → IsPermutation (filter p (x ∷ y ∷ ys)) (filter p (y ∷ x ∷ ys))
+  kept_turn p x y ys = by (p x) (p y)
+    where
+      by : (a b : Bool) → IsPermutation (cond a (x ∷ cond b (y ∷ filter p ys) (filter p ys)) (cond b (y ∷ filter p ys) (filter p ys))) (cond b (y ∷ cond a (x ∷ filter p ys) (filter p ys)) (cond a (x ∷ filter p ys) (filter p ys)))
+      by true true = turn x y (filter p ys)
+      by true false = IsPermutation-refl (x ∷ filter p ys)
+      by false true = IsPermutation-refl (y ∷ filter p ys)
+      by false false = IsPermutation-refl (filter p ys)
+
+  kept_behind : (p : X → Bool) (x : X) (xs ys : List X) → IsPermutation (filter p xs) (filter p ys) → IsPermutation (filter p (x ∷ xs)) (filter p (x ∷ ys))
+  kept_behind p x xs ys m = by (p x)
+    where
+      by : (b : Bool) → IsPermutation (cond b (x ∷ filter p xs) (filter p xs)) (cond b (x ∷ filter p ys) (filter p ys))
+      by true = IsPermutation-cons x (filter p xs) (filter p ys) m
+      by false = m
+
+  put_keeps : (p : X → Bool) (x : X) (ys : List X) → IsPermutation (filter p (x ∷ ys)) (filter p (put_in x ys))
+  unfolding put_in
+  put_keeps p x [] = IsPermutation-refl (filter p (x ∷ []))
+  put_keeps p x (y ∷ ys) = by (is_lt (R x y)) (kept_behind p y (x ∷ ys) (put_in x ys) (put_keeps p x ys))
+    where
+      by : (b : Bool) → IsPermutation (filter p (y ∷ x ∷ ys)) (filter p (y ∷ put_in x ys)) → IsPermutation (filter p (x ∷ y ∷ ys)) (filter p (cond b (x ∷ y ∷ ys) (y ∷ put_in x ys)))
+      by true m = IsPermutation-refl (filter p (x ∷ y ∷ ys))
+      by false m = IsPermutation-trans (filter p (x ∷ y ∷ ys)) (filter p (y ∷ x ∷ ys)) (filter p (y ∷ put_in x ys)) (kept_turn p x y ys) m
+
+  -- of the rearrangement a test keeps the elements that it keeps of the list
+  pub arranged_keeps : (p : X → Bool) (xs : List X) → IsPermutation (filter p xs) (filter p (arranged xs))
+  unfolding arranged
+  arranged_keeps p [] = IsPermutation-refl []
+  arranged_keeps p (x ∷ xs) =
+      IsPermutation-trans (filter p (x ∷ xs)) (filter p (x ∷ arranged xs)) (filter p (put_in x (arranged xs))) (kept_behind p x xs (arranged xs) (arranged_keeps p xs)) (put_keeps p x (arranged xs))
 
   all_put : (P : X → Type 0) (x : X) (ys : List X) → P x → AllByRecursion P ys → AllByRecursion P (put_in x ys)
   unfolding put_in

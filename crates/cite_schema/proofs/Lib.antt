@@ -1,7 +1,6 @@
 pub mod Answered
 pub mod Arranging
 pub mod Fitting
-pub mod Meeting
 pub mod Names
 pub mod NumberTexts
 pub mod Orders

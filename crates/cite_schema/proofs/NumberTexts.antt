@@ -84,7 +84,3 @@ unfolding number_of
 number_is bs z h =
     let (fits, is) = gave (is_number_text bs) (is_number (signed_digits_value 10 bs)) (signed_digits_value 10 bs) z h in
     rw is at fits
-
--- the value of a number text is in range
-pub number_fits : (bs : List ℕ) (z : ℤ) → number_of bs ≡ Some z → FitsSigned w64 z
-number_fits bs z h = is_fits z (number_is bs z h)

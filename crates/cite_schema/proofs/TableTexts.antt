@@ -1,9 +1,8 @@
 -- What a header record and lines spell: read one after the other, at most one table, and none where a key comes twice.
-use Rattle.std.proofs.Common.{◌≡◌, ◌≢◌, ℕ, ℤ, zero, suc, ◌<◌, ◌+◌, Bool, true, false, ◌&&◌, List, [], ◌∷◌, ◌++◌, Option, Some, None, map, length, take, get_or, slice_get, refl, sym, ap, ◌∙◌, subst, add-one, arith, IsPermutation}
+use Rattle.std.proofs.Common.{◌≡◌, ℕ, ℤ, zero, suc, ◌<◌, ◌+◌, Bool, true, false, ◌&&◌, List, [], ◌∷◌, ◌++◌, Option, Some, None, map, length, take, slice_get, refl, sym, ap, ◌∙◌, subst, add-one, arith, IsPermutation}
 use Rattle.std.specs.Prelude.{option_map, nat_le, is_none, if◌then◌else◌}
 use Rattle.std.specs.List.{AllByRecursion, list_all, position, position_or_len}
 use Rattle.std.proofs.lemmas.Bool.{lt-ltb, le-ltb}
-use Rattle.std.specs.declared.cmp.Ordering.TheVariants.{Equal}
 use Rattle.std.proofs.lemmas.List.Elements.{recursion_from_All, All-from_recursion}
 use Rattle.std.proofs.lemmas.List.Sorted.{All-permutation}
 use Rattle.cite_schema.specs.declared.value.Kind.{Kind}
@@ -17,7 +16,7 @@ use Rattle.cite_schema.specs.Headings.{is_heading}
 use Rattle.cite_schema.specs.Tables.{fits, is_short, is_short_row, key_cmp, is_table}
 use Rattle.cite_schema.specs.TableTexts.{before, all_some, passing, column_in, header_of, cell_of, cells_in, bad_cell_in, row_of, IsTableOf, SpellsOnce, SpellsTable}
 use Rattle.cite_schema.proofs.NumberTexts.{number_is}
-use Rattle.cite_schema.proofs.Rising.{Differ, and_true, differ_from_rises, one_rearrangement}
+use Rattle.cite_schema.proofs.Rising.{Differ, and_true, one_rearrangement}
 use Rattle.cite_schema.proofs.Arranging.{arranged, arranged_moves, arranged_rises}
 use Rattle.cite_schema.proofs.Orders.{key_total}
 
@@ -88,13 +87,6 @@ pub cell_more : (cs : List Column) (fs : List (List ℕ)) (i : ℕ) (c : Column)
     → row_of (take i cs) (take i fs) ≡ Some vs → row_of (take (i + 1) cs) (take (i + 1) fs) ≡ Some (vs ++ v ∷ [])
 cell_more cs fs i c f v vs at there is so = rw add-one (next_cell cs fs i c f v vs at there is so)
 
--- where a field says no value, the line spells no row
-pub cell_stop : (cs : List Column) (fs : List (List ℕ)) (i : ℕ) (c : Column) (f : List ℕ) → slice_get cs i ≡ Some c → slice_get fs i ≡ Some f → cell_of c.kind f ≡ None → row_of cs fs ≡ None
-cell_stop [] fs i c f at there none = absurd (cc)
-cell_stop (d ∷ ds) [] i c f at there none = absurd (cc)
-cell_stop (d ∷ ds) (h ∷ hs) zero c f at there none = let e : d ≡ c = cc in let g : h ≡ f = cc in rw (e, g, none) refl
-cell_stop (d ∷ ds) (h ∷ hs) (suc i) c f at there none = rw (cell_stop ds hs i c f at there none) (before_none (cell_of d.kind h))
-
 -- the first field that says no value is the bad cell
 pub first_bad : (cs : List Column) (fs : List (List ℕ)) (i : ℕ) (c : Column) (f : List ℕ) (vs : List Value) → slice_get cs i ≡ Some c → slice_get fs i ≡ Some f → cell_of c.kind f ≡ None → row_of (take i cs) (take i fs) ≡ Some vs
     → (position_or_len is_none (cells_in cs fs) ≡ i) × (i < length (cells_in cs fs))
@@ -134,13 +126,6 @@ found_none p xs at = rw at (rw (le-ltb (length xs) (length xs) (omega arith)) re
 -- and no bad cell
 pub row_cells : (cs : List Column) (fs : List (List ℕ)) (row : List Value) → row_of cs fs ≡ Some row → bad_cell_in cs fs ≡ None
 row_cells cs fs row so = found_none is_none (cells_in cs fs) (none_bad cs fs row so)
-
--- a line of another width spells no row
-pub other_width : (cs : List Column) (fs : List (List ℕ)) → length cs ≢ length fs → row_of cs fs ≡ None
-other_width [] [] apart = absurd (apart refl)
-other_width [] (f ∷ fs) apart = refl
-other_width (c ∷ cs) [] apart = refl
-other_width (c ∷ cs) (f ∷ fs) apart = rw (other_width cs fs (λ e. apart (ap suc e))) (before_none (cell_of c.kind f))
 
 -- What was read fits.
 
@@ -203,24 +188,10 @@ one_table columns lines table other t u =
     let same : u.rows ≡ t.rows = some_one u.rows t.rows _ u.read t.read in
     one_rearrangement key_cmp key_total t.rows table other t.same (subst (λ (rs : List (List Value)). IsPermutation rs other) same u.same) t.keyed u.keyed
 
--- the rows of a table's lines have different keys
-pub keys_differ : (columns : List Column) (lines : List (List (List ℕ))) (table rows : List (List Value)) → all_some (map (row_of columns) lines) ≡ Some rows → IsTableOf columns lines table → Differ key_cmp key_total rows
-keys_differ columns lines table rows read t =
-    subst (λ (rs : List (List Value)). Differ key_cmp key_total rs) (some_one t.rows rows _ t.read read) (differ_from_rises key_cmp key_total t.rows table t.same t.keyed)
-
 -- rows with different keys have a table
 pub has_table : (columns : List Column) (lines : List (List (List ℕ))) (rows : List (List Value)) → all_some (map (row_of columns) lines) ≡ Some rows → Differ key_cmp key_total rows
     → IsTableOf columns lines (arranged key_cmp key_total rows)
 has_table columns lines rows read differ = record { rows = rows; read = read; same = arranged_moves key_cmp key_total rows; keyed = arranged_rises key_cmp key_total rows differ }
-
--- where a key comes twice among the rows there is no table
-pub key_twice : (columns : List Column) (lines : List (List (List ℕ))) (table rows : List (List Value)) → all_some (map (row_of columns) lines) ≡ Some rows
-    → (i j : ℕ) (d : List Value) → i < j → j < length rows → key_cmp (get_or rows i d) (get_or rows j d) ≡ Equal → IsTableOf columns lines table → ⊥
-key_twice columns lines table rows read i j d before within tied t = keys_differ columns lines table rows read t i j d before within tied
-
--- where a line spells no row there is no table
-pub no_rows : (columns : List Column) (lines : List (List (List ℕ))) (table : List (List Value)) → all_some (map (row_of columns) lines) ≡ None → IsTableOf columns lines table → ⊥
-no_rows columns lines table none t = let read = t.read in absurd (cc)
 
 heading_passed : (o : Option (List Column)) (columns : List Column) → passing is_heading o ≡ Some columns → is_heading columns ≡ true
 heading_passed None columns h = absurd (cc)
