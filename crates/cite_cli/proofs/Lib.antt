@@ -1,7 +1,10 @@
-pub mod Choosing
 pub mod Collecting
 pub mod Fields
+pub mod LineFaults
+pub mod Outputs
+pub mod Questions
 pub mod ReaderSteps
 pub mod RecordSteps
+pub mod Results
 pub mod Streaming
 pub mod Words

@@ -2,13 +2,13 @@
 use Rattle.std.proofs.Common.{◌≡◌, ◌<◌, ◌≤◌, ◌+◌, ℕ, zero, suc, Bool, true, false, ◌==◌, List, [], ◌∷◌, Option, Some, None, length, refl, ap, subst, arith}
 use Rattle.std.specs.Prelude.{if◌then◌else◌}
 use Rattle.csv.specs.Machine.{Read, step, in_field, start_field, start_record, ends_with, is_end, ends_at_end, next_record, fields_after, field_after}
-use Rattle.csv.specs.Reading.{records_from, records_next, default_config}
+use Rattle.csv.specs.Reading.{records_from, records_next, default_config, strip_bom, is_bom}
 use Rattle.csv.specs.declared.parser.State.{State}
 use Rattle.csv.specs.declared.parser.State.TheVariants as st
 use Rattle.csv.specs.declared.parser.Action.{Action}
 use Rattle.csv.specs.declared.parser.Action.TheVariants as act
 use Rattle.csv.specs.declared.parser.Terminator.TheVariants as term
-use Rattle.cite_cli.specs.Records.{rest_of}
+use Rattle.cite_cli.specs.Records.{rest_of, records_of}
 
 -- a step that ends a record leads between two records
 Ends : State × Action → Type 0
@@ -111,3 +111,31 @@ one_more s xs p h e =
 pub no_more : (s : State) (xs : List ℕ) → next_record default_config s [] [] xs ≡ None → rest_of s xs ≡ []
 unfolding records_from
 no_more s xs e = let long : length xs + 1 ≡ suc (length xs) = omega arith in rw long (rw e refl)
+
+-- no more records than bytes
+few_from : (n : ℕ) (s : State) (xs : List ℕ) → ends_at_end s ≡ false → length xs < n → length (records_from default_config n s xs) ≤ length xs
+unfolding records_from
+few_from zero s xs h lt = absurd (omega arith)
+few_from (suc n) s xs h lt = by (next_record default_config s [] [] xs) refl (λ t u between less. few_from n t u between less)
+  where
+    by : (o : Option Read) → next_record default_config s [] [] xs ≡ o → ((t : State) (u : List ℕ) → ends_at_end t ≡ false → length u < n → length (records_from default_config n t u) ≤ length u)
+        → length (records_next (records_from default_config n) o) ≤ length xs
+    by None e more = omega arith
+    by (Some r) e more = let less = shorter s xs r h e in let rest = more r.1 r.2 (took s [] [] xs r e).between (omega arith) in omega (arith, rest)
+
+without_mark : (text : List ℕ) → length (strip_bom text) ≤ length text
+unfolding strip_bom
+without_mark [] = omega arith
+without_mark (a ∷ []) = omega arith
+without_mark (a ∷ b ∷ []) = omega arith
+without_mark (a ∷ b ∷ c ∷ rest) = by (is_bom a b c)
+  where
+    by : (mark : Bool) → length (if mark then rest else a ∷ b ∷ c ∷ rest) ≤ length (a ∷ b ∷ c ∷ rest)
+    by true = omega arith
+    by false = omega arith
+
+pub few_records : (text : List ℕ) → length (records_of text) ≤ length text
+few_records text =
+    let few = few_from (length (strip_bom text) + 1) st.StartRecord (strip_bom text) refl (omega arith) in
+    let short = without_mark text in
+    omega (arith, few, short)

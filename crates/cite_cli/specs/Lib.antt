@@ -1,7 +1,7 @@
-pub mod Chosen
-pub mod Output
-pub mod Records
-pub mod Rows
 pub mod Run
 pub mod Select
+pub mod Refusals
+pub mod Rows
+pub mod Records
+pub mod Output
 pub mod Streams

@@ -1,8 +1,9 @@
 -- What a run did, by its status.
-use Rattle.std.specs.Prelude.{◌≡◌, ◌≤◌, ◌⊎◌, List, ℕ, ℤ, Option, length}
+use Rattle.std.specs.Prelude.{◌≡◌, ◌≤◌, ◌⊎◌, List, ℕ, Option, length}
 use Rattle.cite_ports.specs.Ports.{Holds, Rose}
 use Rattle.cite_cli.specs.Streams.{Taken, AllTaken, PutsFront}
-use Rattle.cite_cli.specs.Select.{IsSelect, IsFullResult, IsRefusal}
+use Rattle.cite_cli.specs.Select.{IsSelect, IsFullResult, IsRefusal, IsDue}
+use Rattle.cite_cli.specs.declared.bounds.Bounds.{Bounds}
 use Rattle.cite_cli.specs.declared.command.Ending.{Ending}
 use Rattle.cite_cli.specs.declared.command.Ending.TheVariants.{Done, Usage, ReadFault, WriteFault, NoMemory, TooLong, Refused}
 
@@ -25,20 +26,16 @@ IsSilent seen = seen.written_after ≡ seen.written_before
 abbrev pub TookAll : List ℕ → Seen → Type 0
 TookAll text seen = AllTaken text seen.left_before seen.left_after × (length text ≤ 67108864)
 
--- what is due for an input: the result of at most 67,108,864 bytes, or the line of a refusal
-abbrev pub IsDue : List ℕ → ℤ → ℤ → List ℕ → List ℕ → Type 0
-IsDue column low high text bytes = IsFullResult column low high text bytes ⊎ IsRefusal column low high text bytes
-
 -- what `select` did, by its ending
-abbrev pub Selects : List ℕ → ℤ → ℤ → Seen → Ending → Type 0
-Selects column low high seen Done = (text : List ℕ) × (bytes : List ℕ) × TookAll text seen × IsFullResult column low high text bytes × Holds bytes seen.written_before seen.written_after
-Selects column low high seen Refused = (text : List ℕ) × (line : List ℕ) × TookAll text seen × IsRefusal column low high text line × Holds line seen.written_before seen.written_after
-Selects column low high seen ReadFault = Rose seen.reads_before seen.reads_after × IsSilent seen
-Selects column low high seen WriteFault = (text : List ℕ) × (bytes : List ℕ) × TookAll text seen × IsDue column low high text bytes
+abbrev pub Selects : List ℕ → Bounds → Seen → Ending → Type 0
+Selects column bounds seen Done = (text : List ℕ) × (bytes : List ℕ) × TookAll text seen × IsFullResult column bounds text bytes × Holds bytes seen.written_before seen.written_after
+Selects column bounds seen Refused = (text : List ℕ) × (line : List ℕ) × TookAll text seen × IsRefusal column bounds text line × Holds line seen.written_before seen.written_after
+Selects column bounds seen ReadFault = (text : List ℕ) × Taken text seen.left_before seen.left_after × (length text ≤ 67108864) × Rose seen.reads_before seen.reads_after × IsSilent seen
+Selects column bounds seen WriteFault = (text : List ℕ) × (bytes : List ℕ) × TookAll text seen × IsDue column bounds text bytes
     × Rose seen.writes_before seen.writes_after × PutsFront bytes seen.written_before seen.written_after
-Selects column low high seen TooLong = (text : List ℕ) × Taken text seen.left_before seen.left_after × (length text ≡ 67108865) × IsSilent seen
-Selects column low high seen NoMemory = IsSilent seen
-Selects column low high seen Usage = ⊥
+Selects column bounds seen TooLong = (text : List ℕ) × Taken text seen.left_before seen.left_after × (length text ≡ 67108865) × IsSilent seen
+Selects column bounds seen NoMemory = IsSilent seen
+Selects column bounds seen Usage = ⊥
 
 -- the status that tells an ending
 abbrev pub status_of : Ending → ℕ
@@ -52,19 +49,18 @@ status_of Refused = 10
 
 -- the words have no form, and nothing was taken or written
 pub record IsUsage (words : List (List ℕ)) (seen : Seen) : Type 0 where
-  pub none : (column : List ℕ) (low high : ℤ) → IsSelect words column low high → ⊥
+  pub none : (column : List ℕ) (bounds : Bounds) → IsSelect words column bounds → ⊥
   pub untaken : seen.left_after ≡ seen.left_before
   pub silent : IsSilent seen
 
 -- the words have a form, and the run ended so
 pub record IsRun (words : List (List ℕ)) (seen : Seen) (status : ℕ) : Type 0 where
   pub column : List ℕ
-  pub low : ℤ
-  pub high : ℤ
-  pub form : IsSelect words column low high
+  pub bounds : Bounds
+  pub form : IsSelect words column bounds
   pub ending : Ending
   pub status_is : status ≡ status_of ending
-  pub did : Selects column low high seen ending
+  pub did : Selects column bounds seen ending
 
 -- status 2 exactly where the words have no form, and else as the ending says
 abbrev pub Answers : List (List ℕ) → Seen → ℕ → Type 0

@@ -1,5 +1,5 @@
 -- What a command took of its source and put into its sink, where these tell their content.
-use Rattle.std.specs.Prelude.{◌≡◌, ◌<◌, ◌+◌, ◌++◌, ℕ, List, Option, option_map, length, take, ⊤}
+use Rattle.std.specs.Prelude.{◌≡◌, ◌<◌, ◌≤◌, ◌+◌, ◌++◌, ℕ, List, Option, option_map, length, take, ⊤}
 use Rattle.std.specs.Io.KnownBytes.{IsAtEnd}
 use Rattle.cite_ports.specs.Ports.{Holds, Rose}
 use Rattle.cite_cli.specs.declared.input.Stop.{Stop}
@@ -15,7 +15,7 @@ AllTaken bytes old new = Taken bytes old new × IsAtEnd new
 
 -- why an input was not read to its end
 abbrev pub StopsBecause : ℕ → Option (List ℕ) → Option (List ℕ) → ℕ → ℕ → Stop → Type 0
-StopsBecause limit old new before after stop.Failed = Rose before after
+StopsBecause limit old new before after stop.Failed = (bytes : List ℕ) × Taken bytes old new × (length bytes ≤ limit) × Rose before after
 StopsBecause limit old new before after stop.TooLong = (bytes : List ℕ) × Taken bytes old new × (length bytes ≡ limit + 1)
 StopsBecause limit old new before after stop.NoMemory = ⊤
 

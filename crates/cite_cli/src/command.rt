@@ -2,11 +2,12 @@
 ghost use Rattle.std.specs.Prelude.{map, string_bytes};
 ghost use Rattle.cite_cli.specs.Run.{Answers};
 
+use crate::bounds::Bounds;
 use crate::input::{Stop, take_all};
 use crate::output::put_all;
 use crate::select::{Output, select_output};
 use cite_ports::{Sink, Source};
-use cite_schema::{NoMemory, read_int};
+use cite_schema::NoMemory;
 use std::alloc::Global;
 use std::thread::Threads;
 
@@ -60,11 +61,9 @@ pub fn run<R: Threads + Sync, S: Source, K: Sink>(
 {
     match words.as_slice() {
         [command, column, low, high] if is_select(command) => {
-            match (read_int(low.as_bytes()), read_int(high.as_bytes())) {
-                (Some(low), Some(high)) => {
-                    status(select(alloc, column.as_bytes(), low, high, source, sink))
-                }
-                _ => status(Ending::Usage),
+            match Bounds::read(low.as_bytes(), high.as_bytes()) {
+                Some(bounds) => status(select(alloc, column.as_bytes(), &bounds, source, sink)),
+                None => status(Ending::Usage),
             }
         }
         _ => status(Ending::Usage),
@@ -97,12 +96,11 @@ fn status(ending: Ending) -> u8
 fn select<S: Source, K: Sink>(
     alloc: Global,
     column: &[u8],
-    low: i64,
-    high: i64,
+    bounds: &Bounds,
     source: &mut S,
     sink: &mut K,
 ) -> Ending
-    ensures { Selects column.now low high (record {
+    ensures { Selects column.now bounds.now (record {
       left_before = S.left source.old;
       left_after = S.left source.new;
       reads_before = S.faults_of source.old;
@@ -119,7 +117,7 @@ fn select<S: Source, K: Sink>(
         Err(Stop::TooLong) => return Ending::TooLong,
         Err(Stop::NoMemory) => return Ending::NoMemory,
     };
-    match select_output(alloc, column, low, high, text.as_slice()) {
+    match select_output(alloc, column, bounds, text.as_slice()) {
         Ok(Output::Done(bytes)) => match put_all(sink, bytes.as_slice()) {
             Ok(()) => Ending::Done,
             Err(_) => Ending::WriteFault,

@@ -1,14 +1,39 @@
-// The header record of a table.
-ghost use Rattle.std.specs.Prelude.{◌≡◌, ◌<◌, length, slice_get, Some, IfOk, option_map};
+// The header record of a table text.
+ghost use Rattle.std.specs.Prelude.{◌≡◌, ◌<◌, length, slice_get, Some, IfOk, IfErr, option_map};
 ghost use Rattle.csv.specs.Records.{fields_of};
 ghost use Rattle.cite_schema.specs.TableTexts.{header_of, column_in};
+ghost use Rattle.cite_cli.specs.Records.{IsReading, left_of};
+ghost use Rattle.cite_cli.specs.Refusals.{IsHeader, header_fault, Tells};
 
+use crate::records::read_next;
+use crate::refusal::{Fault, Refusal};
 use cite_schema::{ByteText, Column, Kind, List, NoMemory, Schema};
-use csv::ByteRecord;
+use csv::{ByteRecord, Reader};
 use std::alloc::Global;
 
-/// The schema of the columns that a header record spells; `Ok(None)` exactly where it spells none.
-pub fn read_header(alloc: Global, head: &ByteRecord) -> Result<Option<Schema>, NoMemory>
+/// The schema of the columns that the reader's first record spells, with the other records left.
+///
+/// # Errors
+///
+/// `BadHeader`, where there is no record or it spells no columns.
+pub fn read_header(alloc: Global, reader: &mut Reader<&[u8]>) -> Result<Schema, Fault>
+    requires { IsReading reader.old }
+    ensures ok { IfOk result (λ schema. IsHeader schema.columns (left_of reader.old) (left_of reader.new)) }
+    ensures reading { IfOk result (λ schema. IsReading reader.new) }
+    ensures why { IfErr result (λ fault. Tells (header_fault (left_of reader.old)) fault) }
+{
+    let mut head = ByteRecord::new(alloc);
+    if !read_next(reader, &mut head)? {
+        return Err(Fault::Refused(Refusal::BadHeader));
+    }
+    match read_schema(alloc, &head)? {
+        Some(schema) => Ok(schema),
+        None => Err(Fault::Refused(Refusal::BadHeader)),
+    }
+}
+
+// The schema of the columns that a header record spells; `Ok(None)` exactly where it spells none.
+fn read_schema(alloc: Global, head: &ByteRecord) -> Result<Option<Schema>, NoMemory>
     ensures { IfOk result (λ read. option_map (λ schema. schema.columns) read ≡ header_of (fields_of head.now)) }
 {
     match read_columns(alloc, head)? {

@@ -5,19 +5,21 @@
 //! written and why: the definitions stand in `specs/`, from `Run` down to `Records`.
 #![tactic(auto)]
 
-mod chosen;
+mod asking;
+mod bounds;
 mod command;
 mod header;
 mod input;
-mod items;
+mod laws;
 mod lines;
 mod output;
-mod range;
 mod records;
+mod refusal;
+mod rows;
 mod select;
-mod table;
 
 pub use command::run;
+pub use laws::one_output_is_due;
 
 #[cfg(test)]
 mod tests;

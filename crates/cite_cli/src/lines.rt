@@ -1,30 +1,40 @@
-// The lines of a table.
-ghost use Rattle.std.specs.Prelude.{◌≡◌, length, IfOk};
+// The lines of a table text.
+ghost use Rattle.std.specs.Prelude.{◌≡◌, ◌<◌, ◌≤◌, ◌^◌, length, OnOk, IfOk, IfErr, Some, List as Listed};
 ghost use Rattle.csv.specs.Records.{fields_of};
 ghost use Rattle.cite_schema.specs.TableTexts.{row_of};
+ghost use Rattle.cite_cli.specs.Refusals.{own_fault, Tells};
 
 use crate::header::field;
-use cite_schema::{Column, List, NoMemory, Row, Value};
+use crate::refusal::{Fault, Refusal};
+use cite_schema::{Column, List, Row, Value};
 use csv::ByteRecord;
 use std::alloc::Global;
 
-/// The row that a line spells under these columns; `Ok(None)` exactly where it spells none.
+/// The row that a line spells under at most 64 columns.
+///
+/// # Errors
+///
+/// `BadWidth` and `BadCell` with the number of the line.
 pub fn read_row(
     alloc: Global,
     columns: &[Column],
-    line: &ByteRecord,
-) -> Result<Option<Row>, NoMemory>
-    ensures { IfOk result (λ read. read ≡ row_of columns.now (fields_of line.now)) }
+    line: u32,
+    fields: &ByteRecord,
+) -> Result<Row, Fault>
+    requires few { length columns.now ≤ 64 }
+    ensures ok { IfOk result (λ row. row_of columns.now (fields_of fields.now) ≡ Some row) }
+    ensures why { IfErr result (λ fault. Tells (own_fault columns.now line (fields_of fields.now)) fault) }
 {
-    if line.len() != columns.len() {
-        return Ok(None);
+    if fields.len() != columns.len() {
+        return Err(Fault::Refused(Refusal::BadWidth { line }));
     }
     let mut values = List::with_capacity(alloc, columns.len())?;
     for i in 0..columns.len() {
-        match Value::read(alloc, columns[i].kind, field(line, i))? {
-            Some(value) => values.push(value)?,
-            None => return Ok(None),
-        }
+        let Some(value) = Value::read(alloc, columns[i].kind, field(fields, i))? else {
+            let column = i as u16;
+            return Err(Fault::Refused(Refusal::BadCell { line, column }));
+        };
+        values.push(value)?;
     }
-    Ok(Some(Row::make(values)))
+    Ok(Row::make(values))
 }

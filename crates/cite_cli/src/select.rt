@@ -1,10 +1,13 @@
 // What `select COLUMN LO HI` writes for an input.
-ghost use Rattle.std.specs.Prelude.{IfOk};
+ghost use Rattle.std.specs.Prelude.{◌≤◌, IfOk, length};
 ghost use Rattle.cite_cli.specs.Output.{Explains};
 
-use crate::chosen::read_chosen;
-use crate::items::{all_items, place_of};
-use crate::range::Range;
+use crate::asking::select_form;
+use crate::bounds::Bounds;
+use crate::header::read_header;
+use crate::records::records_in;
+use crate::refusal::{Fault, Refusal};
+use crate::rows::read_rows;
 use cite_schema::{ByteText, NoMemory};
 use result_bytes::{LayFault, lay_out};
 use std::alloc::Global;
@@ -16,47 +19,61 @@ pub enum Output {
     Refused(ByteText),
 }
 
-/// What `select COLUMN LO HI` writes for an input: the rows with `low` ≤ `column` < `high` in the order of their keys,
-/// or the first rule that the input breaks. One pass over the input, and n log n in its lines.
+/// What `select COLUMN LO HI` writes for an input: the rows that are within the bounds in the column, in the order of
+/// their keys, or the first rule that the input breaks. One pass over the input, n log n in its lines, and n log n in
+/// the rows of the result.
 pub fn select_output(
     alloc: Global,
     column: &[u8],
-    low: i64,
-    high: i64,
+    bounds: &Bounds,
     text: &[u8],
 ) -> Result<Output, NoMemory>
-    ensures { IfOk result (λ output. Explains column.now low high text.now output) }
+    requires { length text.now ≤ 67108864 }
+    ensures { IfOk result (λ output. Explains column.now bounds.now text.now output) }
 {
-    let chosen = match read_chosen(alloc, column, low, high, text)? {
-        Some(chosen) => chosen,
-        None => return refusal(alloc, b"Refused BadTable\n"),
-    };
-    if !chosen.place.is_some() {
-        return refusal(alloc, b"Refused UnknownColumn\n");
-    }
-    let items = all_items(alloc, chosen.schema.columns().as_slice())?;
-    match lay_out(alloc, &items, &chosen.rows) {
+    match select_result(alloc, column, bounds, text) {
         Ok(bytes) => Ok(Output::Done(bytes)),
-        Err(LayFault::TooLarge { bytes }) => too_large(alloc, bytes),
-        Err(LayFault::NoMemory) => Err(NoMemory),
+        Err(Fault::Refused(refusal)) => {
+            let line = refusal_line(alloc, refusal)?;
+            Ok(Output::Refused(line))
+        }
+        Err(Fault::NoMemory) => Err(NoMemory),
+    }
+}
+
+ghost use Rattle.std.specs.Prelude.{IfErr};
+ghost use Rattle.cite_cli.specs.Select.{IsFullResult, IsBroken};
+ghost use Rattle.cite_cli.specs.Refusals.{TellsOf};
+
+fn select_result(
+    alloc: Global,
+    column: &[u8],
+    bounds: &Bounds,
+    text: &[u8],
+) -> Result<ByteText, Fault>
+    requires { length text.now ≤ 67108864 }
+    ensures ok { IfOk result (λ bytes. IsFullResult column.now bounds.now text.now bytes) }
+    ensures why { IfErr result (λ fault. TellsOf (λ refusal. IsBroken column.now bounds.now text.now refusal) fault) }
+{
+    let mut reader = records_in(alloc, text);
+    let schema = read_header(alloc, &mut reader)?;
+    let form = select_form(alloc, &schema, column, bounds)?;
+    let rows = read_rows(alloc, schema.columns().as_slice(), &form, &mut reader)?;
+    let rows = form.rows(alloc, rows)?;
+    let items = form.heads(alloc)?;
+    match lay_out(alloc, &items, &rows) {
+        Ok(bytes) => Ok(bytes),
+        Err(LayFault::TooLarge { bytes }) => Err(Fault::Refused(Refusal::ResultTooLarge { bytes })),
+        Err(LayFault::NoMemory) => Err(Fault::NoMemory),
     }
 }
 
 ghost use Rattle.std.specs.Prelude.{◌≡◌};
-ghost use Rattle.cite_cli.specs.declared.select.Output.TheVariants as outputs;
+ghost use Rattle.cite_cli.specs.Refusals.{refusal_line};
 
-fn refusal(alloc: Global, line: &[u8]) -> Result<Output, NoMemory>
-    ensures { IfOk result (λ output. output ≡ outputs.Refused line.now) }
+fn refusal_line(alloc: Global, refusal: Refusal) -> Result<ByteText, NoMemory>
+    ensures { IfOk result (λ line. line ≡ refusal_line refusal) }
 {
-    Ok(Output::Refused(ByteText::from_slice(alloc, line)?))
-}
-
-ghost use Rattle.std.specs.Prelude.{◌++◌, ◌∷◌, [], codes};
-ghost use Rattle.std.specs.Fmt.{decimal};
-
-fn too_large(alloc: Global, bytes: u64) -> Result<Output, NoMemory>
-    ensures { IfOk result (λ output. output ≡ outputs.Refused (codes "Refused ResultTooLarge " ++ decimal bytes ++ 10 ∷ [])) }
-{
-    let line = format!(in alloc; "Refused ResultTooLarge {bytes}\n")?;
-    refusal(alloc, line.as_bytes())
+    let line = format!(in alloc; "Refused {refusal}\n")?;
+    Ok(ByteText::from_slice(alloc, line.as_bytes())?)
 }
