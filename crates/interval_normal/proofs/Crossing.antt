@@ -6,7 +6,7 @@ use Rattle.std.specs.declared.cmp.Ordering.{Ordering}
 use Rattle.std.specs.declared.cmp.Ordering.TheVariants.{Less, Equal, Greater}
 use Rattle.interval_normal.specs.declared.set.Span.{Span}
 use Rattle.interval_normal.specs.Spans.{under, in_span, has, IsEnd, IsSpan, EndsBelow, IsCanonical}
-use Rattle.interval_normal.specs.Ends.{ends_before, sooner, later}
+use Rattle.interval_normal.specs.Ends.{sooner, later}
 use Rattle.interval_normal.specs.Cross.{interval, piece, clip, cross}
 use Rattle.interval_normal.proofs.Order.{IsLine, less_after, less_before, ge_from_less, ge_from_same, ge_trans, lt_not_ge}
 use Rattle.interval_normal.proofs.Unique.{first, rest}

@@ -1,5 +1,5 @@
 -- Canonical lists merged: a span put behind others that start no later.
-use Rattle.std.proofs.Common.{◌≡◌, Bool, true, false, not, cond, ◌&&◌, ◌||◌, List, [], ◌∷◌, ◌++◌, Option, Some, None, refl, sym, ap, ◌∙◌, subst, append_assoc, option_to_list, ℕ, ◌+◌, ◌<◌, ◌≤◌, length, drop, get_or}
+use Rattle.std.proofs.Common.{◌≡◌, Bool, true, false, cond, ◌&&◌, ◌||◌, List, [], ◌∷◌, ◌++◌, Option, Some, None, refl, sym, ap, ◌∙◌, subst, append_assoc, option_to_list, ℕ, ◌+◌, ◌<◌, ◌≤◌, length, drop, get_or}
 use Rattle.std.specs.Ordering.{is_lt, is_le, is_ge, ordering_reverse}
 use Rattle.std.specs.declared.cmp.Ordering.{Ordering}
 use Rattle.std.specs.declared.cmp.Ordering.TheVariants.{Less, Equal, Greater}

@@ -5,7 +5,7 @@ use Rattle.std.specs.Ordering.{is_lt, is_eq, is_ge}
 use Rattle.std.specs.declared.cmp.Ordering.{Ordering}
 use Rattle.std.specs.declared.cmp.Ordering.TheVariants.{Less, Equal, Greater}
 use Rattle.interval_normal.specs.declared.set.Span.{Span}
-use Rattle.interval_normal.specs.Spans.{under, in_span, has, HoldsOne, IsCanonical, IsNextOf}
+use Rattle.interval_normal.specs.Spans.{under, has, HoldsOne, IsCanonical, IsNextOf}
 use Rattle.interval_normal.proofs.Order.{IsLine, greater_less, lt_not_ge}
 use Rattle.interval_normal.proofs.Unique.{unique, first, has_low}
 use Rattle.interval_normal.proofs.Gaps.{or_false}

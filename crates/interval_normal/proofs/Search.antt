@@ -1,12 +1,12 @@
 -- A value sought in a canonical list: the last span that starts at it or below decides.
-use Rattle.std.proofs.Common.{◌≡◌, ℕ, zero, suc, ◌<◌, ◌≤◌, ◌+◌, Bool, true, false, ◌&&◌, ◌||◌, List, [], ◌∷◌, Option, Some, None, length, get_or, slice_index_or, refl, sym, ap, ◌∙◌, arith}
+use Rattle.std.proofs.Common.{◌≡◌, ℕ, zero, suc, ◌<◌, ◌≤◌, Bool, true, false, ◌&&◌, ◌||◌, List, [], ◌∷◌, Option, Some, None, length, get_or, slice_index_or, refl, sym, ap, ◌∙◌, arith}
 use Rattle.std.specs.List.{AllWithin}
 use Rattle.std.specs.Ordering.{is_lt, is_ge}
 use Rattle.std.specs.declared.cmp.Ordering.{Ordering}
 use Rattle.std.specs.declared.cmp.Ordering.TheVariants.{Less, Equal, Greater}
 use Rattle.interval_normal.specs.declared.set.Span.{Span}
-use Rattle.interval_normal.specs.Spans.{under, in_span, has, IsEnd, EndsBelow, IsCanonical}
-use Rattle.interval_normal.proofs.Order.{IsLine, less_after, ge_from_less, ge_trans, lt_not_ge}
+use Rattle.interval_normal.specs.Spans.{under, has, IsEnd, EndsBelow, IsCanonical}
+use Rattle.interval_normal.proofs.Order.{IsLine, ge_from_less, ge_trans}
 use Rattle.interval_normal.proofs.Unique.{rest}
 use Rattle.interval_normal.proofs.Gaps.{or_false}
 

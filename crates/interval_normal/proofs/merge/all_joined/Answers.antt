@@ -1,4 +1,4 @@
-use Rattle.std.proofs.Common.{◌≡◌, ◌+◌, ap, subst, sym, ◌∙◌, length, drop, arith, rules}
+use Rattle.std.proofs.Common.{◌≡◌, ap, subst, sym, ◌∙◌, drop, arith, rules}
 use Rattle.interval_normal.specs.Joined.{join_all}
 use Rattle.interval_normal.proofs.Order.{IsLine}
 use Rattle.interval_normal.proofs.Places.{whole_rest}

@@ -1,7 +1,5 @@
-use Rattle.std.proofs.Common.{◌≡◌, ◌∷◌, [], ◌++◌, List, ap, sym, ◌∙◌, arith}
-use Rattle.interval_normal.specs.declared.set.Span.{Span}
+use Rattle.std.proofs.Common.{ap, sym, ◌∙◌, arith}
 use Rattle.interval_normal.specs.Ends.{farther, reaches}
-use Rattle.interval_normal.specs.Joined.{join_last}
 use Rattle.interval_normal.proofs.Order.{IsLine}
 use Rattle.std.proofs.lemmas.List.{nil_from_length}
 use Rattle.interval_normal.proofs.Joining.{widened, put_behind, put_first}

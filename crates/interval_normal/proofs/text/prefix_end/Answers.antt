@@ -1,4 +1,4 @@
-use Rattle.std.proofs.Common.{◌≡◌, ◌++◌, ◌∷◌, [], ◌+◌, ◌-◌, Some, ap, sym, ◌∙◌, length, get_or, take, arith}
+use Rattle.std.proofs.Common.{◌++◌, ◌∷◌, [], ◌+◌, ◌-◌, Some, ap, sym, ◌∙◌, length, get_or}
 use Rattle.interval_normal.proofs.Prefixes.{raised_last, dropped_last}
 use Rattle.interval_normal.proofs.text.prefix_end.Goals as goal
 

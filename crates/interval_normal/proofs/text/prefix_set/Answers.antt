@@ -1,5 +1,5 @@
 use Rattle.std.proofs.Common.{◌≡◌, ◌&&◌, Some, None, ap, sym, ◌∙◌}
-use Rattle.std.specs.Ordering.{is_ge, is_lt}
+use Rattle.std.specs.Ordering.{is_ge}
 use Rattle.cite_schema.specs.Values.{text_cmp}
 use Rattle.interval_normal.specs.Spans.{has}
 use Rattle.interval_normal.specs.PrefixEnds.{prefix_end}

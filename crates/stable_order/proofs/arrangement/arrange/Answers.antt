@@ -1,4 +1,4 @@
-use Rattle.std.proofs.Common.{◌≡◌, sym, ap, ◌∙◌, subst, arith, length, IsPermutation, IsSortedBy}
+use Rattle.std.proofs.Common.{◌≡◌, sym, ◌∙◌, subst, arith, IsPermutation, IsSortedBy}
 use Rattle.std.specs.Ordering.{is_lt}
 use Rattle.stable_order.specs.Rows.{by_order}
 use Rattle.stable_order.proofs.Arranged.{sorted_rises, written_back}

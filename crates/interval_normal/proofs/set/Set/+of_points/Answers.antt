@@ -1,4 +1,4 @@
-use Rattle.std.proofs.Common.{◌≡◌, ◌||◌, ◌/◌, ap, ◌∙◌, length, take}
+use Rattle.std.proofs.Common.{◌||◌, ◌/◌, ap, ◌∙◌, length, take}
 use Rattle.std.specs.List.{list_any}
 use Rattle.std.specs.Ordering.{is_eq}
 use Rattle.interval_normal.specs.Spans.{has}

@@ -1,7 +1,6 @@
 use Rattle.std.proofs.Common.{◌≡◌, ◌-◌, suc, ap, sym, ◌∙◌, rules, of_calls, arith, subst, ltb}
 use Rattle.std.proofs.lemmas.Fn.{always_returns_same}
 use Rattle.std.specs.Ordering.{is_ge}
-use Rattle.std.specs.List.Sorted.{IsPartitionPoint}
 use Rattle.interval_normal.specs.Spans.{has, IsCanonical, under}
 use Rattle.interval_normal.proofs.Order.{IsLine}
 use Rattle.interval_normal.proofs.Search.{AreStarted, AreLater, last_started, none_started, are_partitioned}

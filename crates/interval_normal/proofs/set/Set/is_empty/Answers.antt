@@ -1,5 +1,5 @@
-use Rattle.std.proofs.Common.{◌≡◌, ◌↔◌, ap, subst, IsTrue, false, length, nat_eq, ◌∙◌}
-use Rattle.interval_normal.specs.Spans.{has, IsCanonical}
+use Rattle.std.proofs.Common.{ap, subst, length, nat_eq, ◌∙◌}
+use Rattle.interval_normal.specs.Spans.{IsCanonical}
 use Rattle.interval_normal.proofs.Order.{IsLine}
 use Rattle.interval_normal.proofs.Lone.{nothing_held}
 use Rattle.interval_normal.proofs.set.Set.is_empty.Goals as goal

@@ -1,4 +1,4 @@
-use Rattle.std.proofs.Common.{◌≡◌, ◌↔◌, [], ◌∷◌, IsTrue, true, false, length, sym, ◌∙◌, subst, arith}
+use Rattle.std.proofs.Common.{◌≡◌, ◌↔◌, [], ◌∷◌, IsTrue, true, length, sym, ◌∙◌, subst, arith}
 use Rattle.interval_normal.specs.Spans.{has, IsCanonical}
 use Rattle.interval_normal.proofs.Order.{IsLine}
 use Rattle.interval_normal.proofs.Places.{sole}

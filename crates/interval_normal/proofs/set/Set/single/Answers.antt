@@ -1,4 +1,4 @@
-use Rattle.std.proofs.Common.{◌≡◌, ◌↔◌, [], ◌∷◌, Some, None, true, false, IsTrue, length, sym, ◌∙◌, subst, arith}
+use Rattle.std.proofs.Common.{◌≡◌, ◌↔◌, [], ◌∷◌, Some, None, true, false, length, sym, ◌∙◌, subst, arith}
 use Rattle.interval_normal.specs.Spans.{HoldsOne, IsCanonical}
 use Rattle.interval_normal.proofs.Order.{IsLine}
 use Rattle.interval_normal.proofs.Places.{sole}
