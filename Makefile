@@ -4,8 +4,8 @@
 program := crates/cite_prog/out/cite_prog
 
 demo: program
-	@echo 'select depth 10 20 < examples/depths.csv'
-	@$(program) archive select depth 10 20 < examples/depths.csv
+	@echo 'select depth 10 20 < examples/stations.csv'
+	@$(program) archive select depth 10 20 < examples/stations.csv
 
 # Proves the program and what it stands on, and builds it.
 program:

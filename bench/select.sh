@@ -9,8 +9,10 @@
 #
 # The table has two columns, `sid:int,depth:int`, keys of seven digits and depths from 0 to 999; a
 # tenth of it is selected. It comes with its keys in rising order and in shuffled order, since a
-# tree of keys is much faster to fill in rising order. All programs are run in turn in each round, and
-# the best round of each counts: time is processor time, memory the largest resident set.
+# tree of keys is much faster to fill in rising order; then once more in shuffled order with a column
+# of texts between the two, `station:text`; and at last with keys that are texts. All programs are run
+# in turn in each round, and the best round of each counts: time is processor time, memory the
+# largest resident set.
 set -euo pipefail
 
 rows=${1:-3000000}
@@ -26,15 +28,20 @@ need() {
 
 # Writes a table. The shuffled keys run through a full period of k -> 1664525 k + 1013904223 modulo a
 # power of two, and those past the end are left out.
-table() { # rising|shuffled
+table() { # rising|shuffled|texts|text-keys
     awk -v rows="$rows" -v order="$1" 'BEGIN {
-        print "sid:int,depth:int"
+        if (order == "texts") print "sid:int,station:text,depth:int"
+        else if (order == "text-keys") print "name:text,depth:int"
+        else print "sid:int,depth:int"
         for (size = 1; size < rows; size *= 2) {}
         k = 12345 % size
         for (i = 0; i < rows; i++) {
             if (order == "rising") k = i
             else do { k = (k * 1664525 + 1013904223) % size } while (k >= rows)
-            printf "%d,%d\n", 1000000 + k, (k * 7919 + 13) % 1000
+            depth = (k * 7919 + 13) % 1000
+            if (order == "texts") printf "%d,bay %d,%d\n", 1000000 + k, k % 97, depth
+            else if (order == "text-keys") printf "bay %d,%d\n", 1000000 + k, depth
+            else printf "%d,%d\n", 1000000 + k, depth
         }
     }'
 }
@@ -44,13 +51,12 @@ ours() { "$program" archive select depth 100 200; }
 plain() { "$work/plain_select" depth 100 200; }
 
 miller() {
-    sed '1s/:int//g' | mlr --icsv --ocsv --quote-all filter '$depth >= 100 && $depth < 200' then sort -nf sid
+    sed '1s/:int//g; 1s/:text//g' | mlr --icsv --ocsv --quote-all filter '$depth >= 100 && $depth < 200' then sort $sorted
 }
 
 sqlite() {
-    sqlite3 :memory: 'create table t (sid integer primary key, depth integer)' '.mode csv' \
-        '.import --skip 1 /dev/stdin t' '.headers on' \
-        'select * from t where depth >= 100 and depth < 200 order by sid'
+    sqlite3 :memory: "create table t ($schema)" '.mode csv' '.import --skip 1 /dev/stdin t' '.headers on' \
+        'select * from t where depth >= 100 and depth < 200 order by 1'
 }
 
 export -f ours plain miller sqlite
@@ -84,14 +90,21 @@ programs=(ours plain)
 if command -v mlr > /dev/null; then programs+=(miller); else echo "Miller (mlr) is missing: skipped"; fi
 if command -v sqlite3 > /dev/null; then programs+=(sqlite); else echo "sqlite3 is missing: skipped"; fi
 
-for order in rising shuffled; do
+for order in rising shuffled texts text-keys; do
     table "$order" > "$work/$order.csv"
+    # How Miller sorts the table, and how SQLite makes it.
+    case $order in
+        texts) sorted='-nf sid' schema='sid integer primary key, station text, depth integer' ;;
+        text-keys) sorted='-f name' schema='name text primary key, depth integer' ;;
+        *) sorted='-nf sid' schema='sid integer primary key, depth integer' ;;
+    esac
+    export sorted schema
     input=$(stat -c %s "$work/$order.csv")
     for ((run = 0; run < runs; run++)); do
         for name in "${programs[@]}"; do measure "$name" "$order"; done
     done
     cmp "$work/ours.$order.out" "$work/plain.$order.out" || { echo "select.sh: the answers differ" >&2; exit 1; }
-    echo "keys $order: $rows rows, $input bytes, best of $runs"
+    echo "$order: $rows rows, $input bytes, best of $runs"
     for name in "${programs[@]}"; do
         awk -v name="$name" -v s="$(best "$name" "$order" 1)" -v base="$(best plain "$order" 1)" \
             -v kb="$(best "$name" "$order" 2)" -v input="$input" 'BEGIN {
