@@ -18,7 +18,7 @@ use Rattle.cite_schema.proofs.TableTexts.{length-all_some, some_push}
 use Rattle.cite_cli.specs.declared.refusal.Refusal.{Refusal}
 use Rattle.cite_cli.specs.declared.refusal.Refusal.TheVariants.{KeyTwice}
 use Rattle.cite_cli.specs.Refusals.{own_fault, lines_fault}
-use Rattle.cite_cli.specs.Rows.{ArePicked}
+use Rattle.cite_cli.specs.Parts.{ArePicked}
 use Rattle.cite_cli.proofs.LineFaults.{own_first, key_first, none_first}
 
 -- of all lines these are left: those before them spell rows with keys of their own, which are in the set, and of the rows those that pass the test are picked

@@ -21,8 +21,8 @@ use Rattle.subset_query.specs.declared.form.Normal.{Normal}
 use Rattle.subset_query.specs.declared.form.Normal.TheVariants as normal
 use Rattle.cite_cli.specs.declared.bounds.Bounds.{Bounds}
 use Rattle.cite_cli.specs.Records.{records_of}
-use Rattle.cite_cli.specs.Refusals.{column_fault, lines_fault, table_fault, records_fault, IsHeader}
-use Rattle.cite_cli.specs.Rows.{ArePicked}
+use Rattle.cite_cli.specs.Refusals.{column_fault, lines_fault, table_fault, records_fault}
+use Rattle.cite_cli.specs.Parts.{IsHeader, ArePicked}
 use Rattle.cite_cli.specs.Select.{select_query, IsResult}
 
 -- what passes a test once passes it again

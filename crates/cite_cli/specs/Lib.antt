@@ -1,7 +1,6 @@
 pub mod Run
 pub mod Select
 pub mod Refusals
-pub mod Rows
 pub mod Records
-pub mod Output
+pub mod Parts
 pub mod Streams

@@ -1,5 +1,5 @@
 -- Which rule an input breaks first, and the line that tells it.
-use Rattle.std.specs.Prelude.{◌≡◌, ℕ, ◌+◌, List, [], ◌∷◌, ◌++◌, Option, Some, None, length, nat_eq, codes, unwrap_or, if◌then◌else◌, ⊤}
+use Rattle.std.specs.Prelude.{ℕ, ◌+◌, List, [], ◌∷◌, ◌++◌, Option, Some, None, length, nat_eq, codes, unwrap_or, if◌then◌else◌}
 use Rattle.std.specs.Option.{option_map, option_or}
 use Rattle.std.specs.Fmt.{decimal}
 use Rattle.cite_schema.specs.Tables.{has_key}
@@ -11,8 +11,6 @@ use Rattle.cite_schema.specs.declared.schema.Column.{Column}
 use Rattle.subset_query.specs.Checks.{kind_named}
 use Rattle.cite_cli.specs.declared.refusal.Refusal.{Refusal}
 use Rattle.cite_cli.specs.declared.refusal.Refusal.TheVariants.{BadHeader, UnknownColumn, WrongKind, BadWidth, BadCell, KeyTwice, ResultTooLarge}
-use Rattle.cite_cli.specs.declared.refusal.Fault.{Fault}
-use Rattle.cite_cli.specs.declared.refusal.Fault.TheVariants.{Refused, NoMemory}
 
 -- the name of a rule, and its numbers, each after a space
 abbrev pub told : Refusal → List ℕ
@@ -67,28 +65,3 @@ table_fault column (Some columns) lines = option_or (column_fault columns column
 abbrev pub records_fault : List ℕ → List (List (List ℕ)) → Option Refusal
 records_fault column [] = Some BadHeader
 records_fault column (head ∷ lines) = table_fault column (header_of head) lines
-
--- no columns were spelled
-abbrev pub spelling_fault : Option (List Column) → Option Refusal
-spelling_fault None = Some BadHeader
-spelling_fault (Some columns) = None
-
--- the first of the records is no header
-abbrev pub header_fault : List (List (List ℕ)) → Option Refusal
-header_fault [] = Some BadHeader
-header_fault (head ∷ lines) = spelling_fault (header_of head)
-
--- the first of the records is the header of these columns, and the others are the lines
-pub record IsHeader (columns : List Column) (records lines : List (List (List ℕ))) : Type 0 where
-  pub head : List (List ℕ)
-  pub records_are : records ≡ head ∷ lines
-  pub spelled : header_of head ≡ Some columns
-
--- what a fault tells: a rule that is broken, or want of memory
-abbrev pub TellsOf : (Refusal → Type 0) → Fault → Type 0
-TellsOf Broken (Refused refusal) = Broken refusal
-TellsOf Broken NoMemory = ⊤
-
--- the rule is the first that is broken
-abbrev pub Tells : Option Refusal → Fault → Type 0
-Tells first fault = TellsOf (λ refusal. first ≡ Some refusal) fault

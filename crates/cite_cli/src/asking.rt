@@ -5,7 +5,8 @@ ghost use Rattle.cite_schema.specs.Queries.{asked};
 ghost use Rattle.subset_query.specs.Checks.{kind_named};
 ghost use Rattle.subset_query.specs.Forms.{formed, IsSettled};
 ghost use Rattle.cite_cli.specs.Select.{select_query};
-ghost use Rattle.cite_cli.specs.Refusals.{column_fault, Tells};
+ghost use Rattle.cite_cli.specs.Refusals.{column_fault};
+ghost use Rattle.cite_cli.specs.Parts.{Tells};
 
 use crate::bounds::Bounds;
 use crate::refusal::{Fault, Refusal};

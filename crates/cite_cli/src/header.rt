@@ -3,7 +3,7 @@ ghost use Rattle.std.specs.Prelude.{◌≡◌, ◌<◌, length, slice_get, Some,
 ghost use Rattle.csv.specs.Records.{fields_of};
 ghost use Rattle.cite_schema.specs.TableTexts.{header_of, column_in};
 ghost use Rattle.cite_cli.specs.Records.{IsReading, left_of};
-ghost use Rattle.cite_cli.specs.Refusals.{IsHeader, header_fault, Tells};
+ghost use Rattle.cite_cli.specs.Parts.{IsHeader, header_fault, Tells};
 
 use crate::records::read_next;
 use crate::refusal::{Fault, Refusal};

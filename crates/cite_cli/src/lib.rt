@@ -2,7 +2,7 @@
 //!
 //! `run` reads the words, takes the input, reads the table of its lines, and writes the result of the query that the
 //! words ask, or the first rule that the input breaks. Its one clause tells, for each status, what was taken and
-//! written and why: the definitions stand in `specs/`, from `Run` down to `Records`.
+//! written and why: the definitions stand in `specs/`, from `Run` down to `Streams`.
 #![tactic(auto)]
 
 mod asking;

@@ -2,7 +2,8 @@
 ghost use Rattle.std.specs.Prelude.{◌≡◌, ◌<◌, ◌≤◌, ◌^◌, length, OnOk, IfOk, IfErr, Some, List as Listed};
 ghost use Rattle.csv.specs.Records.{fields_of};
 ghost use Rattle.cite_schema.specs.TableTexts.{row_of};
-ghost use Rattle.cite_cli.specs.Refusals.{own_fault, Tells};
+ghost use Rattle.cite_cli.specs.Refusals.{own_fault};
+ghost use Rattle.cite_cli.specs.Parts.{Tells};
 
 use crate::header::field;
 use crate::refusal::{Fault, Refusal};

@@ -2,8 +2,8 @@
 ghost use Rattle.std.specs.Prelude.{◌≡◌, ◌<◌, ◌≤◌, ◌^◌, [], length, IfOk, IfErr};
 ghost use Rattle.subset_query.specs.Forms.{formed};
 ghost use Rattle.cite_cli.specs.Records.{IsReading, left_of};
-ghost use Rattle.cite_cli.specs.Refusals.{lines_fault, Tells};
-ghost use Rattle.cite_cli.specs.Rows.{ArePicked};
+ghost use Rattle.cite_cli.specs.Refusals.{lines_fault};
+ghost use Rattle.cite_cli.specs.Parts.{Tells, ArePicked};
 
 use crate::lines::read_row;
 use crate::records::read_next;

@@ -1,6 +1,6 @@
 // What `select COLUMN LO HI` writes for an input.
 ghost use Rattle.std.specs.Prelude.{◌≤◌, IfOk, length};
-ghost use Rattle.cite_cli.specs.Output.{Explains};
+ghost use Rattle.cite_cli.specs.Parts.{Explains};
 
 use crate::asking::select_form;
 use crate::bounds::Bounds;
@@ -43,7 +43,7 @@ pub fn select_output(
 
 ghost use Rattle.std.specs.Prelude.{IfErr};
 ghost use Rattle.cite_cli.specs.Select.{IsFullResult, IsBroken};
-ghost use Rattle.cite_cli.specs.Refusals.{TellsOf};
+ghost use Rattle.cite_cli.specs.Parts.{TellsOf};
 
 fn select_result(
     alloc: Global,

@@ -1,0 +1,54 @@
+-- What the parts of `select` hand on to each other. Clauses of private functions alone cite it.
+use Rattle.std.specs.Prelude.{◌≡◌, ◌≢◌, ℕ, Bool, List, [], ◌∷◌, Option, Some, None, map, filter, AllPairs, ⊤}
+use Rattle.std.specs.declared.cmp.Ordering.TheVariants.{Equal}
+use Rattle.cite_schema.specs.Tables.{key_cmp}
+use Rattle.cite_schema.specs.TableTexts.{header_of, all_some, row_of}
+use Rattle.cite_schema.specs.declared.value.Value.{Value}
+use Rattle.cite_schema.specs.declared.schema.Column.{Column}
+use Rattle.cite_cli.specs.declared.bounds.Bounds.{Bounds}
+use Rattle.cite_cli.specs.declared.refusal.Refusal.{Refusal}
+use Rattle.cite_cli.specs.declared.refusal.Refusal.TheVariants.{BadHeader}
+use Rattle.cite_cli.specs.declared.refusal.Fault.{Fault}
+use Rattle.cite_cli.specs.declared.refusal.Fault.TheVariants as faults
+use Rattle.cite_cli.specs.declared.select.Output.{Output}
+use Rattle.cite_cli.specs.declared.select.Output.TheVariants.{Done, Refused}
+use Rattle.cite_cli.specs.Refusals.{lines_fault}
+use Rattle.cite_cli.specs.Select.{IsFullResult, IsRefusal}
+
+-- no columns were spelled
+abbrev pub spelling_fault : Option (List Column) → Option Refusal
+spelling_fault None = Some BadHeader
+spelling_fault (Some columns) = None
+
+-- the first of the records is no header
+abbrev pub header_fault : List (List (List ℕ)) → Option Refusal
+header_fault [] = Some BadHeader
+header_fault (head ∷ lines) = spelling_fault (header_of head)
+
+-- the first of the records is the header of these columns, and the others are the lines
+pub record IsHeader (columns : List Column) (records lines : List (List (List ℕ))) : Type 0 where
+  pub head : List (List ℕ)
+  pub records_are : records ≡ head ∷ lines
+  pub spelled : header_of head ≡ Some columns
+
+-- what a fault tells: a rule that is broken, or want of memory
+abbrev pub TellsOf : (Refusal → Type 0) → Fault → Type 0
+TellsOf Broken (faults.Refused refusal) = Broken refusal
+TellsOf Broken faults.NoMemory = ⊤
+
+-- the rule is the first that is broken
+abbrev pub Tells : Option Refusal → Fault → Type 0
+Tells first fault = TellsOf (λ refusal. first ≡ Some refusal) fault
+
+-- each line spells a row, no two rows have one key, and these are the rows that pass the test
+pub record ArePicked (columns : List Column) (keeps : List Value → Bool) (lines : List (List (List ℕ))) (picked : List (List Value)) : Type 0 where
+  pub rows : List (List Value)
+  pub read : all_some (map (row_of columns) lines) ≡ Some rows
+  pub apart : AllPairs (λ r t. key_cmp r t ≢ Equal) rows
+  pub unbroken : lines_fault columns [] lines ≡ None
+  pub picked_are : picked ≡ filter keeps rows
+
+-- the output of `select` for an input: its result, or the line of a refusal
+abbrev pub Explains : List ℕ → Bounds → List ℕ → Output → Type 0
+Explains column bounds text (Done bytes) = IsFullResult column bounds text bytes
+Explains column bounds text (Refused line) = IsRefusal column bounds text line
