@@ -1,5 +1,6 @@
 pub mod Collecting
 pub mod Fields
+pub mod FirstLines
 pub mod LineFaults
 pub mod Outputs
 pub mod Questions

@@ -1,9 +1,10 @@
 -- Which rule an input breaks first, and the line that tells it.
-use Rattle.std.specs.Prelude.{ℕ, ◌+◌, List, [], ◌∷◌, ◌++◌, Option, Some, None, length, nat_eq, codes, unwrap_or, if◌then◌else◌}
+use Rattle.std.specs.Prelude.{◌≡◌, ◌≢◌, ◌↔◌, ℕ, ◌+◌, List, [], ◌∷◌, ◌++◌, Option, Some, None, map, length, AllPairs, nat_eq, codes, unwrap_or, if◌then◌else◌}
 use Rattle.std.specs.Option.{option_map, option_or}
 use Rattle.std.specs.Fmt.{decimal}
-use Rattle.cite_schema.specs.Tables.{has_key}
-use Rattle.cite_schema.specs.TableTexts.{header_of, row_of, bad_cell_in}
+use Rattle.std.specs.declared.cmp.Ordering.TheVariants.{Equal}
+use Rattle.cite_schema.specs.Tables.{key_cmp, has_key}
+use Rattle.cite_schema.specs.TableTexts.{header_of, all_some, row_of, bad_cell_in, IsTableOf}
 use Rattle.cite_schema.specs.declared.value.Kind.{Kind}
 use Rattle.cite_schema.specs.declared.value.Kind.TheVariants as kinds
 use Rattle.cite_schema.specs.declared.value.Value.{Value}
@@ -55,6 +56,25 @@ line_fault columns earlier fields = option_or (own_fault columns (length earlier
 abbrev pub lines_fault : List Column → List (List Value) → List (List (List ℕ)) → Option Refusal
 lines_fault columns earlier [] = None
 lines_fault columns earlier (fields ∷ rest) = option_or (line_fault columns earlier fields) (lines_fault columns (earlier ++ unwrap_or (row_of columns fields) [] ∷ []) rest)
+
+-- a line breaks this rule, and is the first to break one: the lines before it spell rows with keys of their own
+pub record IsFirstBroken (columns : List Column) (lines : List (List (List ℕ))) (refusal : Refusal) : Type 0 where
+  pub before : List (List (List ℕ))
+  pub fields : List (List ℕ)
+  pub after : List (List (List ℕ))
+  pub parts : lines ≡ before ++ fields ∷ after
+  pub rows : List (List Value)
+  pub read : all_some (map (row_of columns) before) ≡ Some rows
+  pub apart : AllPairs (λ r t. key_cmp r t ≢ Equal) rows
+  pub breaks : line_fault columns rows fields ≡ Some refusal
+
+-- the rule that is told is that of the first line that breaks one
+abbrev pub FirstBrokenIsTold : Type 0
+FirstBrokenIsTold = (columns : List Column) (lines : List (List (List ℕ))) (refusal : Refusal) → ((lines_fault columns [] lines ≡ Some refusal) ↔ IsFirstBroken columns lines refusal)
+
+-- none is told exactly where the lines are those of a table
+abbrev pub TablesBreakNone : Type 0
+TablesBreakNone = (columns : List Column) (lines : List (List (List ℕ))) → ((lines_fault columns [] lines ≡ None) ↔ ((table : List (List Value)) × IsTableOf columns lines table))
 
 -- the first rule that a table breaks: of its header, of the column that is asked for, and then of its lines
 abbrev pub table_fault : List ℕ → Option (List Column) → List (List (List ℕ)) → Option Refusal

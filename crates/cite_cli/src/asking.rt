@@ -1,5 +1,5 @@
 // The query that a `select` asks, and its normal form.
-ghost use Rattle.std.specs.Prelude.{◌≡◌, ◌≤◌, IfOk, IfErr, OnOk, None, length, map};
+ghost use Rattle.std.specs.Prelude.{◌≡◌, IfOk, IfErr, OnOk, None, map};
 ghost use Rattle.cite_schema.specs.Answers.{Alike};
 ghost use Rattle.cite_schema.specs.Queries.{asked};
 ghost use Rattle.subset_query.specs.Checks.{kind_named};

@@ -1,5 +1,5 @@
 // The numbers that a `select` asks for.
-ghost use Rattle.std.specs.Prelude.{◌≡◌, MatchOption};
+ghost use Rattle.std.specs.Prelude.{MatchOption};
 ghost use Rattle.cite_cli.specs.declared.bounds.Bounds.{Bounds as Read};
 ghost use Rattle.cite_cli.specs.Select.{AreBounds};
 

@@ -19,7 +19,7 @@ mod rows;
 mod select;
 
 pub use command::run;
-pub use laws::one_output_is_due;
+pub use laws::{one_output_is_due, the_first_broken_line_is_told};
 
 #[cfg(test)]
 mod tests;

@@ -1,5 +1,5 @@
 // The lines of a table text.
-ghost use Rattle.std.specs.Prelude.{◌≡◌, ◌<◌, ◌≤◌, ◌^◌, length, OnOk, IfOk, IfErr, Some, List as Listed};
+ghost use Rattle.std.specs.Prelude.{◌≡◌, ◌≤◌, length, IfOk, IfErr, Some};
 ghost use Rattle.csv.specs.Records.{fields_of};
 ghost use Rattle.cite_schema.specs.TableTexts.{row_of};
 ghost use Rattle.cite_cli.specs.Refusals.{own_fault};
