@@ -12,39 +12,52 @@
 //! - `Keys`: which keys a set of keys holds;
 //! - `Answers`: what a query asks of a table, the one answer, the bytes that it gives, and when two queries are alike;
 //! - `Layout`: the bytes of a result;
-//! - `TableTexts`: which table a header record and the lines under it spell.
+//! - `TableTexts`: which table a header record and the lines under it spell;
+//! - `Lines`: what the lines of a batch name and bring;
+//! - `Metadata`: which metadata a citation may have;
+//! - `Tests`: results that come only after tests, so that an order of refusals reads as a text.
 #![tactic(auto)]
 
+mod batch_ask;
 mod boxed;
 mod condition;
+mod dataset;
 mod item;
 mod key_set;
 mod laws;
+mod line;
 mod list;
 mod memory;
+mod metadata;
 mod number;
 mod query;
 mod row;
 mod same;
 mod schema;
+mod step;
 #[cfg(test)]
 mod tests;
 mod text;
 mod value;
 
+pub use batch_ask::BatchAsk;
 pub use boxed::Boxed;
 pub use condition::Cond;
+pub use dataset::{Dataset, Issue};
 pub use item::{Dir, Item, Shown};
 pub use key_set::KeySet;
 pub use laws::{
     a_table_text_spells_at_most_one_table, answers_exist_and_are_unique, schemas_are_well_named,
 };
+pub use line::Line;
 pub use list::{ByteText, List};
 pub use memory::NoMemory;
+pub use metadata::{is_plain, is_plain_within, meta_fault};
 pub use number::read_int;
 pub use query::{Along, Asked, CiteAsk, Meta, OnColumn, Query};
 pub use row::Row;
 pub use same::{Same, same_slice};
 pub use schema::{Column, Schema, SchemaFault};
+pub use step::Step;
 pub use text::known_bytes;
 pub use value::{Kind, Value, compare, print_value};
