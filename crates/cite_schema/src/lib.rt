@@ -57,7 +57,7 @@ pub use number::read_int;
 pub use query::{Along, Asked, CiteAsk, Meta, OnColumn, Query};
 pub use row::Row;
 pub use same::{Same, same_slice};
-pub use schema::{Column, Schema, SchemaFault};
+pub use schema::{Column, Schema, SchemaFault, has_name_form};
 pub use step::Step;
 pub use text::known_bytes;
 pub use value::{Kind, Value, compare, print_value};

@@ -76,6 +76,15 @@ impl Schema {
         &self.columns
     }
 
+    /// The columns, moved. It takes no memory.
+    pub fn into_columns(self) -> List<Column>
+        ensures value { result ≡ self.columns }
+        ensures heading { IsTrue (is_heading self.columns) }
+    {
+        let Schema { columns, .. } = self;
+        columns
+    }
+
     /// Whether the row has one value of the right kind for each column, and no text of more than 65,535 bytes. It takes
     /// no memory.
     pub fn fits(&self, row: &Row) -> bool

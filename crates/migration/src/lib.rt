@@ -1,0 +1,18 @@
+//! What the steps of a migration make of a schema, of a row and of a form, and which steps harm no citation.
+//!
+//! What a step makes of the columns, and the first fault of steps, stands in `specs/Columns.antt`; of a row, value by
+//! value, in `specs/Rows.antt`; of a column's set in `specs/Sets.antt`; of a form in `specs/Forms.antt`, as a relation:
+//! the carried parts are replaced by the settled form that gives the same bytes. Steps are carried one after the other,
+//! and where one makes nothing of a row or a form, nothing is left. The laws stand in `specs/CarryLaws.antt` and
+//! `specs/Harmless.antt`.
+#![tactic(auto)]
+
+mod fault;
+mod laws;
+
+pub use fault::StepFault;
+pub use laws::{
+    carried_columns_make_schemas, carried_keys_stay, carried_tables_are_tables,
+    forms_are_carried_to_one_form, harmless_steps_carry, parts_have_a_form,
+    scaled_sets_are_canonical, scaled_sets_are_exact,
+};
