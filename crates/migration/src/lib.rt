@@ -7,8 +7,13 @@
 //! `specs/Harmless.antt`.
 #![tactic(auto)]
 
+mod columns;
 mod fault;
 mod laws;
+mod numbers;
+mod places;
+mod row;
+mod schema;
 
 pub use fault::StepFault;
 pub use laws::{
@@ -16,3 +21,5 @@ pub use laws::{
     forms_are_carried_to_one_form, harmless_steps_carry, parts_have_a_form,
     scaled_sets_are_canonical, scaled_sets_are_exact,
 };
+pub use row::carry_row;
+pub use schema::carry_schema;

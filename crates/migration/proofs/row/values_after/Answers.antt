@@ -1,0 +1,8 @@
+use Rattle.std.proofs.Common.{◌≡◌, ℕ, zero, suc, List, [], ◌∷◌, Some, refl, sym, ap, ◌∙◌}
+use Rattle.cite_schema.specs.declared.value.Value.{Value}
+use Rattle.migration.specs.Rows.{row_after, value_after}
+use Rattle.migration.proofs.Placed.{renamed_row}
+use Rattle.migration.proofs.row.values_after.Goals as goal
+
+pub returns-in-Rename : goal.returns-in-Rename
+returns-in-Rename c = sym (ap (λ step. row_after c.args.columns.now step c.args.values) c.in-Rename.is ∙ renamed_row c.in-Rename.column c.in-Rename.to _ c.args.values)
