@@ -1,11 +1,8 @@
 pub mod Collecting
-pub mod Fields
 pub mod FirstLines
 pub mod LineFaults
 pub mod Outputs
 pub mod Questions
-pub mod ReaderSteps
-pub mod RecordSteps
 pub mod Results
 pub mod Streaming
 pub mod Words

@@ -1,12 +1,12 @@
 -- What a line breaks, and what the lines break one after the other.
-use Rattle.std.proofs.Common.{◌≡◌, ℕ, suc, ◌+◌, true, false, List, [], ◌∷◌, ◌++◌, Some, None, length, take, slice_get, refl, sym, ap, ◌∙◌, arith}
+use Rattle.std.proofs.Common.{◌≡◌, ℕ, suc, ◌+◌, true, false, List, [], ◌∷◌, ◌++◌, Some, None, length, refl, sym, ap, ◌∙◌, arith}
 use Rattle.std.specs.Prelude.{nat_eq}
 use Rattle.std.proofs.lemmas.Bool.Decides.{nat_tests}
 use Rattle.cite_schema.specs.declared.value.Value.{Value}
 use Rattle.cite_schema.specs.declared.schema.Column.{Column}
 use Rattle.cite_schema.specs.Tables.{has_key}
-use Rattle.cite_schema.specs.TableTexts.{row_of, cell_of}
-use Rattle.cite_schema.proofs.TableTexts.{before_some, bad_cell_at, row_width, row_cells}
+use Rattle.cite_schema.specs.TableTexts.{row_of, cell_of, bad_cell_in}
+use Rattle.cite_schema.proofs.TableTexts.{before_some, row_width, row_cells}
 use Rattle.cite_cli.specs.declared.refusal.Refusal.{Refusal}
 use Rattle.cite_cli.specs.declared.refusal.Refusal.TheVariants.{BadCell, KeyTwice}
 use Rattle.cite_cli.specs.Refusals.{own_fault, lines_fault}
@@ -15,10 +15,8 @@ same_width : (fields : List (List ℕ)) (columns : List Column) → length field
 same_width fields columns e = grind (arith, nat_tests)
 
 -- the first bad cell of a line of the right width is its fault
-pub cell_fault : (columns : List Column) (line : ℕ) (fields : List (List ℕ)) (i : ℕ) (c : Column) (f : List ℕ) (values : List Value) → length fields ≡ length columns → slice_get columns i ≡ Some c → slice_get fields i ≡ Some f → cell_of c.kind f ≡ None
-    → row_of (take i columns) (take i fields) ≡ Some values → own_fault columns line fields ≡ Some (BadCell line i)
-cell_fault columns line fields i c f values wide at there none so =
-    rw (same_width fields columns wide, bad_cell_at columns fields i c f values at there none so) refl
+pub cell_fault : (columns : List Column) (line : ℕ) (fields : List (List ℕ)) (i : ℕ) → length fields ≡ length columns → bad_cell_in columns fields ≡ Some i → own_fault columns line fields ≡ Some (BadCell line i)
+cell_fault columns line fields i wide bad = rw (same_width fields columns wide, bad) refl
 
 -- a line that spells a row breaks no rule by itself
 pub no_own_fault : (columns : List Column) (line : ℕ) (fields : List (List ℕ)) (row : List Value) → row_of columns fields ≡ Some row → own_fault columns line fields ≡ None

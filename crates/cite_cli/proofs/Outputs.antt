@@ -9,7 +9,7 @@ use Rattle.cite_schema.proofs.TableTexts.{spells_once}
 use Rattle.cite_cli.specs.declared.bounds.Bounds.{Bounds}
 use Rattle.cite_cli.specs.declared.refusal.Refusal.{Refusal}
 use Rattle.cite_cli.specs.declared.refusal.Refusal.TheVariants.{ResultTooLarge}
-use Rattle.cite_cli.specs.Records.{records_of}
+use Rattle.csv_records.specs.Records.{records_of}
 use Rattle.cite_cli.specs.Refusals.{records_fault, refusal_line}
 use Rattle.cite_cli.specs.Select.{select_query, IsResult, IsBroken, OneOutputIsDue}
 

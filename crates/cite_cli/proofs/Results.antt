@@ -20,7 +20,7 @@ use Rattle.subset_query.specs.Keys.{HaveOwnKeys}
 use Rattle.subset_query.specs.declared.form.Normal.{Normal}
 use Rattle.subset_query.specs.declared.form.Normal.TheVariants as normal
 use Rattle.cite_cli.specs.declared.bounds.Bounds.{Bounds}
-use Rattle.cite_cli.specs.Records.{records_of}
+use Rattle.csv_records.specs.Records.{records_of}
 use Rattle.cite_cli.specs.Refusals.{column_fault, lines_fault, table_fault, records_fault}
 use Rattle.cite_cli.specs.Parts.{IsHeader, ArePicked}
 use Rattle.cite_cli.specs.Select.{select_query, IsResult}

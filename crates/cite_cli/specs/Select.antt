@@ -12,7 +12,7 @@ use Rattle.cite_schema.specs.declared.query.Query.{Query}
 use Rattle.cite_cli.specs.declared.bounds.Bounds.{Bounds}
 use Rattle.cite_cli.specs.declared.refusal.Refusal.{Refusal}
 use Rattle.cite_cli.specs.declared.refusal.Refusal.TheVariants.{ResultTooLarge}
-use Rattle.cite_cli.specs.Records.{records_of}
+use Rattle.csv_records.specs.Records.{records_of}
 use Rattle.cite_cli.specs.Refusals.{records_fault, refusal_line}
 
 -- the word HI says no number above, or this one

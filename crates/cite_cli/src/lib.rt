@@ -13,7 +13,6 @@ mod input;
 mod laws;
 mod lines;
 mod output;
-mod records;
 mod refusal;
 mod rows;
 mod select;

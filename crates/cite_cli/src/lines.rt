@@ -5,10 +5,10 @@ ghost use Rattle.cite_schema.specs.TableTexts.{row_of};
 ghost use Rattle.cite_cli.specs.Refusals.{own_fault};
 ghost use Rattle.cite_cli.specs.Parts.{Tells};
 
-use crate::header::field;
 use crate::refusal::{Fault, Refusal};
-use cite_schema::{Column, List, Row, Value};
+use cite_schema::{Column, Row};
 use csv::ByteRecord;
+use csv_records::{Cells, read_cells};
 use std::alloc::Global;
 
 /// The row that a line spells under at most 64 columns.
@@ -29,13 +29,8 @@ pub fn read_row(
     if fields.len() != columns.len() {
         return Err(Fault::Refused(Refusal::BadWidth { line }));
     }
-    let mut values = List::with_capacity(alloc, columns.len())?;
-    for i in 0..columns.len() {
-        let Some(value) = Value::read(alloc, columns[i].kind, field(fields, i))? else {
-            let column = i as u16;
-            return Err(Fault::Refused(Refusal::BadCell { line, column }));
-        };
-        values.push(value)?;
+    match read_cells(alloc, columns, fields, 0)? {
+        Cells::Row(row) => Ok(row),
+        Cells::Bad(column) => Err(Fault::Refused(Refusal::BadCell { line, column })),
     }
-    Ok(Row::make(values))
 }

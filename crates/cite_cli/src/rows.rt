@@ -1,15 +1,15 @@
 // The rows that a form picks of the lines of a table text.
 ghost use Rattle.std.specs.Prelude.{◌≡◌, ◌<◌, ◌≤◌, ◌^◌, [], length, IfOk, IfErr};
 ghost use Rattle.subset_query.specs.Forms.{formed};
-ghost use Rattle.cite_cli.specs.Records.{IsReading, left_of};
+ghost use Rattle.csv_records.specs.Records.{IsReading, left_of};
 ghost use Rattle.cite_cli.specs.Refusals.{lines_fault};
 ghost use Rattle.cite_cli.specs.Parts.{Tells, ArePicked};
 
 use crate::lines::read_row;
-use crate::records::read_next;
 use crate::refusal::{Fault, Refusal};
 use cite_schema::{Column, KeySet, List, Row, Value};
 use csv::{ByteRecord, Reader};
+use csv_records::read_next;
 use std::alloc::Global;
 use subset_query::Normal;
 

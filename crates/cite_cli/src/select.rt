@@ -5,10 +5,10 @@ ghost use Rattle.cite_cli.specs.Parts.{Explains};
 use crate::asking::select_form;
 use crate::bounds::Bounds;
 use crate::header::read_header;
-use crate::records::records_in;
 use crate::refusal::{Fault, Refusal};
 use crate::rows::read_rows;
 use cite_schema::{ByteText, NoMemory};
+use csv_records::records_in;
 use result_bytes::{LayFault, lay_out};
 use std::alloc::Global;
 

@@ -1,6 +1,6 @@
 use Rattle.std.proofs.Common.{length}
 use Rattle.subset_query.specs.Forms.{formed}
-use Rattle.cite_cli.specs.Records.{IsReading, left_of}
+use Rattle.csv_records.specs.Records.{IsReading, left_of}
 use Rattle.cite_cli.proofs.Collecting.{ReadSoFar}
 use Rattle.cite_cli.proofs.rows.read_rows.Given as goal
 

@@ -2,10 +2,10 @@ use Rattle.std.proofs.Common.{◌∙◌, sym, ap, subst, arith, length, inr, ref
 use Rattle.cite_schema.specs.declared.schema.Column.{Column}
 use Rattle.cite_schema.specs.Layout.{laid_out}
 use Rattle.subset_query.specs.Forms.{formed}
-use Rattle.cite_cli.specs.Records.{left_of}
+use Rattle.csv_records.specs.Records.{left_of}
 use Rattle.cite_cli.specs.Parts.{IsHeader, ArePicked}
 use Rattle.cite_cli.specs.declared.refusal.Refusal.TheVariants.{ResultTooLarge}
-use Rattle.cite_cli.proofs.RecordSteps.{few_records}
+use Rattle.csv_records.proofs.RecordSteps.{few_records}
 use Rattle.cite_cli.proofs.Results.{some_items, picked_apart, is_result}
 use Rattle.cite_cli.proofs.select.select_result.Goals as goal
 

@@ -8,7 +8,7 @@ use Rattle.csv.specs.declared.parser.State.TheVariants as st
 use Rattle.csv.specs.declared.parser.Action.{Action}
 use Rattle.csv.specs.declared.parser.Action.TheVariants as act
 use Rattle.csv.specs.declared.parser.Terminator.TheVariants as term
-use Rattle.cite_cli.specs.Records.{rest_of, records_of}
+use Rattle.csv_records.specs.Records.{rest_of, records_of}
 
 -- a step that ends a record leads between two records
 Ends : State × Action → Type 0

@@ -2,7 +2,7 @@
 use Rattle.std.specs.Prelude.{◌≡◌, ◌+◌, ℕ, Bool, true, false, List, [], ◌∷◌, Option, Some, length, unwrap_or}
 use Rattle.std.specs.Borrow.{Bor}
 use Rattle.csv.specs.Machine.{ends_at_end}
-use Rattle.csv.specs.Reading.{records, records_from, default_config, strip_bom, source_of, Ready}
+use Rattle.csv.specs.Reading.{records, records_from, default_config, strip_bom, source_of, is_flexible, Ready}
 use Rattle.csv.specs.declared.parser.State.{State}
 use Rattle.csv.specs.declared.reader.Reader.{Reader}
 use Rattle.csv.specs.declared.reader.Trim.TheVariants as trimming
@@ -23,9 +23,10 @@ bytes_left reader = source_of (λ slice. Some slice.now) reader
 abbrev pub left_of : Reader (Bor (List ℕ)) → List (List (List ℕ))
 left_of reader = rest_of reader.state (unwrap_or (bytes_left reader) [])
 
--- the reader stands between two records, and trims nothing
+-- the reader stands between two records, takes records of any widths, and trims nothing
 pub record IsReading (reader : Reader (Bor (List ℕ))) : Type 0 where
   pub plain : reader.trim ≡ trimming.None
+  pub flexible : is_flexible reader ≡ true
   pub config : reader.config ≡ default_config
   pub ready : Ready reader
   pub between : ends_at_end reader.state ≡ false

@@ -2,7 +2,7 @@ use Rattle.std.proofs.Common.{◌∙◌, sym, ap, Some}
 use Rattle.csv.specs.Records.{fields_of}
 use Rattle.cite_schema.specs.TableTexts.{column_in}
 use Rattle.cite_schema.proofs.TableTexts.{some_more, some_stop}
-use Rattle.cite_cli.proofs.header.read_columns.Goals as goal
+use Rattle.csv_records.proofs.header.read_columns.Goals as goal
 
 pub returns-in-None : goal.returns-in-None
 returns-in-None c =
