@@ -1,6 +1,6 @@
 ghost use Rattle.std.specs.Prelude.{◌<◌, length, IfOk};
 
-use crate::{LIMIT, LayFault, lay_out};
+use crate::{LIMIT, LayFault, digest_text, fingerprint, lay_out};
 use cite_schema::{ByteText, Item, List, Row, Shown, Value};
 use std::alloc::{AllocError, Global};
 use std::test::Fail;
@@ -134,5 +134,25 @@ fn the_most_bytes(rt: HostRuntime) -> Result<(), Fail> {
         laid_out_size(alloc, b"xx")?,
         Err(LayFault::TooLarge { bytes: 67_108_865 })
     );
+    Ok(())
+}
+
+// The digest of the bytes in hexadecimal is this text.
+fn prints_as(alloc: Global, bytes: &[u8], want: &[u8]) -> Result<bool, Fail> {
+    let text = digest_text(alloc, &fingerprint(bytes))?;
+    Ok(text.as_slice() == want)
+}
+
+// The examples of NIST for SHA-256: one block, two blocks, and no byte.
+#[test]
+fn digests_are_those_of_the_standard(rt: HostRuntime) -> Result<(), Fail> {
+    let alloc = rt.alloc();
+    let abc = b"ba7816bf8f01cfea414140de5dae2223b00361a396177a9cb410ff61f20015ad";
+    assert!(rt; prints_as(alloc, b"abc", abc)?);
+    let blocks = b"abcdbcdecdefdefgefghfghighijhijkijkljklmklmnlmnomnopnopq";
+    let two = b"248d6a61d20638b8e5c026930c3e6039a33ce45964ff2167f6ecedd419db06c1";
+    assert!(rt; prints_as(alloc, blocks, two)?);
+    let none = b"e3b0c44298fc1c149afbf4c8996fb92427ae41e4649b934ca495991b7852b855";
+    assert!(rt; prints_as(alloc, b"", none)?);
     Ok(())
 }
