@@ -1,5 +1,5 @@
 // The keys of rows, told apart.
-ghost use Rattle.std.specs.Prelude.{◌≡◌, ◌||◌, not, false, IfOk, OnOk};
+ghost use Rattle.std.specs.Prelude.{◌≡◌, ◌||◌, not, false, IfOk, OnErr, OnOk};
 ghost use Rattle.std.specs.Ordering.{is_eq};
 ghost use Rattle.cite_schema.specs.Values.{value_cmp};
 ghost use Rattle.cite_schema.specs.Keys.{holds};
@@ -29,10 +29,11 @@ impl KeySet {
     }
 
     /// Puts a key among the others, and says whether it is a new one. A search of an ordered tree: among n keys about
-    /// log n comparisons.
+    /// log n comparisons. Without memory the keys stay as they were.
     pub fn insert(&mut self, key: &Value) -> Result<bool, NoMemory>
         ensures found { IfOk result (λ new. new ≡ not (holds self.old key.now)) }
         ensures added { OnOk result ((v : Cell) → holds self.new v ≡ (is_eq (value_cmp v key.now) || holds self.old v)) }
+        ensures kept { OnErr result ((v : Cell) → holds self.new v ≡ holds self.old v) }
     {
         match key {
             Value::Int(number) => Ok(self.numbers.insert(*number)?),

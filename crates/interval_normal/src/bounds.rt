@@ -50,28 +50,20 @@ pub fn copied<P: Point>(alloc: Global, end: &Option<P>) -> Result<Option<P>, NoM
 }
 
 /// The later of two values.
-pub fn later_of<P: Point>(alloc: Global, a: &P, b: &P) -> Result<P, NoMemory>
-    ensures { IfOk result (λ r. r ≡ later P.cmp a.now b.now) }
+pub fn later_of<'a, P: Point>(a: &'a P, b: &'a P) -> &'a P
+    ensures { result.now ≡ later P.cmp a.now b.now }
 {
-    if a.compare(b).is_lt() {
-        b.copy(alloc)
-    } else {
-        a.copy(alloc)
-    }
+    if a.compare(b).is_lt() { b } else { a }
 }
 
 /// The sooner of two upper ends.
-pub fn sooner_of<P: Point>(
-    alloc: Global,
-    first: &Option<P>,
-    second: &Option<P>,
-) -> Result<Option<P>, NoMemory>
-    ensures { IfOk result (λ r. r ≡ sooner P.cmp first.now second.now) }
+pub fn sooner_of<'a, P: Point>(first: &'a Option<P>, second: &'a Option<P>) -> &'a Option<P>
+    ensures { result.now ≡ sooner P.cmp first.now second.now }
 {
     if ends_before(first, second) {
-        copied(alloc, first)
+        first
     } else {
-        copied(alloc, second)
+        second
     }
 }
 

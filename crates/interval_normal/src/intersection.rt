@@ -3,7 +3,7 @@ ghost use Rattle.std.specs.Prelude.{◌≡◌, ◌++◌, IfOk, OnOk};
 ghost use Rattle.interval_normal.specs.Spans.{IsCanonical};
 ghost use Rattle.interval_normal.specs.Cross.{piece, cross};
 
-use crate::bounds::{ends_before, is_under, later_of, sooner_of};
+use crate::bounds::{copied, ends_before, is_under, later_of, sooner_of};
 use crate::point::Point;
 use crate::set::Span;
 use cite_schema::{List, NoMemory};
@@ -45,10 +45,13 @@ fn write_piece<P: Point>(
 ) -> Result<(), NoMemory>
     ensures { OnOk result (out.new ≡ out.old ++ piece P.cmp s.now t.now) }
 {
-    let low = later_of(alloc, &s.low, &t.low)?;
-    let high = sooner_of(alloc, &s.high, &t.high)?;
-    if is_under(&high, &low) {
-        out.push(Span { low, high })?;
+    let low = later_of(&s.low, &t.low);
+    let high = sooner_of(&s.high, &t.high);
+    if is_under(high, low) {
+        out.push(Span {
+            low: low.copy(alloc)?,
+            high: copied(alloc, high)?,
+        })?;
     }
     Ok(())
 }

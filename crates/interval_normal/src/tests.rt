@@ -155,6 +155,33 @@ fn touching_sets(rt: HostRuntime) -> Result<(), Fail> {
     Ok(())
 }
 
+// Whether two sets have just these spans in common, on whichever side each stands.
+fn have_in_common(
+    alloc: Global,
+    one: &Set<i64>,
+    other: &Set<i64>,
+    expected: &[(i64, Option<i64>)],
+) -> Result<bool, NoMemory> {
+    let both = one.intersect(alloc, other)?;
+    let turned = other.intersect(alloc, one)?;
+    Ok(has_spans(&both, expected) && has_spans(&turned, expected))
+}
+
+#[test]
+fn ends_of_intersections(rt: HostRuntime) -> Result<(), Fail> {
+    let alloc = rt.alloc();
+    let below_three = Set::below(alloc, &3)?;
+    let below_five = Set::below(alloc, &5)?;
+    let from_three = Set::from(alloc, &3)?;
+    let from_five = Set::from(alloc, &5)?;
+    assert!(rt; have_in_common(alloc, &below_five, &from_three, &[(3, Some(5))])?);
+    assert!(rt; have_in_common(alloc, &below_five, &below_three, &[(i64::MIN, Some(3))])?);
+    assert!(rt; have_in_common(alloc, &from_five, &from_three, &[(5, None)])?);
+    assert!(rt; have_in_common(alloc, &from_three, &from_three, &[(3, None)])?);
+    assert!(rt; have_in_common(alloc, &from_five, &below_three, &[])?);
+    Ok(())
+}
+
 #[test]
 fn points_in_any_order(rt: HostRuntime) -> Result<(), Fail> {
     let alloc = rt.alloc();

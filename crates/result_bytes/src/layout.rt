@@ -17,7 +17,7 @@ use std::alloc::Global;
 /// it. Each field stands in double quotes, with inner ones doubled; commas stand between fields, and a line feed ends
 /// each line. A column that a row lacks shows nothing.
 ///
-/// A result of more than `LIMIT` bytes is `TooLarge`, with their number, before any memory is taken. One of 2^64 bytes
+/// A result of more than 67,108,864 bytes is `TooLarge`, with their number, before any memory is taken. One of 2^64 bytes
 /// or more, whose number no `u64` holds, is want of memory.
 ///
 /// It goes over items times rows twice: once to measure, and once to write. Numbers are printed on the stack, texts
@@ -25,12 +25,12 @@ use std::alloc::Global;
 pub fn lay_out(alloc: Global, items: &List<Item>, rows: &List<Row>) -> Result<ByteText, LayFault>
     requires { 0 < length items.now }
     ensures ok { IfOk result (λ text. text ≡ laid_out items.now rows.now) }
-    ensures within { OnOk result (length (laid_out items.now rows.now) ≤ LIMIT) }
-    ensures too_large { IfErr result (λ fault. TellsSize LIMIT (length (laid_out items.now rows.now)) fault) }
+    ensures within { OnOk result (length (laid_out items.now rows.now) ≤ 67108864) }
+    ensures too_large { IfErr result (λ fault. TellsSize 67108864 (length (laid_out items.now rows.now)) fault) }
 
     // A result that is too large is never answered by want of memory.
     ensures refused { let size = length (laid_out items.now rows.now)
-        in LIMIT < size → size < 2 ^ 64 → result ≡ Err (LayFault.TooLarge size) }
+        in 67108864 < size → size < 2 ^ 64 → result ≡ Err (LayFault.TooLarge size) }
 {
     let Some(bytes) = result_size(items.as_slice(), rows.as_slice()) else {
         return Err(LayFault::NoMemory);

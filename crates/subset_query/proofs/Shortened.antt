@@ -1,9 +1,9 @@
 -- Orders as a loop goes over them.
-use Rattle.std.proofs.Common.{◌≡◌, ◌≤◌, ◌-◌, ℕ, suc, true, false, ◌||◌, cond, List, [], ◌∷◌, ◌++◌, Option, length, get_or, nat_eq, refl, sym, ap, ◌∙◌, arith}
+use Rattle.std.proofs.Common.{◌≡◌, ◌≤◌, ◌-◌, ℕ, suc, true, ◌||◌, cond, List, [], ◌∷◌, ◌++◌, Option, length, get_or, nat_eq, refl, sym, ap, ◌∙◌, arith}
 use Rattle.cite_schema.specs.declared.value.Value.{Value}
 use Rattle.cite_schema.specs.declared.item.Dir.{Dir}
 use Rattle.subset_query.specs.Forms.{ends_at_key}
-use Rattle.subset_query.specs.Settling.{key, names, is_enough, is_fixed, needed, needed_order}
+use Rattle.subset_query.specs.Settling.{key, names, is_enough, is_fixed, needed}
 
 -- the last column decides whether an order ends at the key
 pub ends_last : (order : List Dir) (d : Dir) → 1 ≤ length order → nat_eq (get_or order (length order - 1) d).column 0 ≡ ends_at_key order
@@ -13,9 +13,9 @@ ends_last (p ∷ q ∷ qs) d h =
     let e : length (p ∷ q ∷ qs) - 1 ≡ suc (length (q ∷ qs) - 1) = omega arith in
     ap (λ n. nat_eq (get_or (p ∷ q ∷ qs) n d).column 0) e ∙ ends_last (q ∷ qs) d (omega arith)
 
--- an order that is long enough is what is needed
-pub stop : (only : List (Option Value)) (printed : List ℕ) (front rest order : List Dir) → false ≡ is_fixed only 0 → true ≡ is_enough printed front → needed only printed [] order ≡ needed only printed front rest → front ≡ needed_order only printed order
-stop only printed front rest order free full same = stops rest ∙ sym same ∙ ap (λ b. cond b [] (needed only printed [] order)) free
+-- behind an order that is long enough nothing more is needed
+pub enough : (only : List (Option Value)) (printed : List ℕ) (front rest : List Dir) → true ≡ is_enough printed front → needed only printed front [] ≡ needed only printed front rest
+enough only printed front rest full = sym (ap (λ b. cond b front (front ++ (key ∷ []))) full) ∙ stops rest
   where
     stops : (ds : List Dir) → front ≡ needed only printed front ds
     stops [] = ap (λ b. cond b front (front ++ (key ∷ []))) full

@@ -1,11 +1,10 @@
 // How much of an order is needed.
-ghost use Rattle.std.specs.Prelude.{◌≡◌, IfOk, []};
+ghost use Rattle.std.specs.Prelude.{◌≡◌, ◌≤◌, IfOk, [], length, take};
 ghost use Rattle.subset_query.specs.Forms.{columns_of, printed_columns, names_all, ends_at_key};
-ghost use Rattle.subset_query.specs.Settling.{names, is_enough, needed_order};
+ghost use Rattle.subset_query.specs.Settling.{names, is_enough, needed, needed_order};
 
 use crate::fixed::is_fixed;
 use cite_schema::{Dir, Item, List, NoMemory, Shown, Value};
-use std::alloc::Global;
 
 /// Whether the order names the column.
 fn names(order: &[Dir], column: u16) -> bool
@@ -56,34 +55,48 @@ fn is_enough(items: &[Item], order: &[Dir]) -> bool
     ends_at_key(order) || all_named(items, order)
 }
 
+// Moves the columns of the order that are needed to its front, and says how many they are. The order ends as soon as it
+// is long enough; before that a column drops out where it is fixed to one value, or occurred before.
+fn keep_needed(items: &[Item], order: &mut [Dir], fixed: &[Option<Value>]) -> usize
+    ensures within { result ≤ length order.new }
+    ensures kept { needed fixed.now (printed_columns items.now) (take result order.new) [] ≡ needed fixed.now (printed_columns items.now) [] order.old }
+{
+    let mut kept = 0;
+    for at in 0..order.len() {
+        if is_enough(items, &order[..kept]) {
+            return kept;
+        }
+        let dir = order[at];
+        if !is_fixed(fixed, dir.column) && !names(&order[..kept], dir.column) {
+            order[kept] = dir;
+            kept += 1;
+        }
+    }
+    kept
+}
+
 /// The order without what decides nothing. A column drops out where it is fixed to one value, or occurred before. The
 /// order is completed by the key, and ends as soon as it is at the key, or every column that is shown has occurred;
-/// where the key is fixed it is empty.
+/// where the key is fixed it is empty. It takes memory for the key alone, and compares each column with those before it.
 pub fn needed_order(
-    alloc: Global,
     items: &[Item],
-    order: &[Dir],
+    order: List<Dir>,
     fixed: &[Option<Value>],
 ) -> Result<List<Dir>, NoMemory>
-    ensures { IfOk result (λ needed. needed ≡ needed_order fixed.now (printed_columns items.now) order.now) }
+    ensures { IfOk result (λ needed. needed ≡ needed_order fixed.now (printed_columns items.now) order) }
 {
-    let mut needed = List::new(alloc);
+    let mut order = order.into_vec();
     if is_fixed(fixed, 0) {
-        return Ok(needed);
+        order.clear();
+        return Ok(List::from_vec(order));
     }
-    for dir in order {
-        if is_enough(items, needed.as_slice()) {
-            return Ok(needed);
-        }
-        if !is_fixed(fixed, dir.column) && !names(needed.as_slice(), dir.column) {
-            needed.push(*dir)?;
-        }
-    }
-    if !is_enough(items, needed.as_slice()) {
-        needed.push(Dir {
+    let kept = keep_needed(items, &mut order, fixed);
+    order.truncate(kept);
+    if !is_enough(items, &order) {
+        order.push(Dir {
             column: 0,
             down: false,
         })?;
     }
-    Ok(needed)
+    Ok(List::from_vec(order))
 }

@@ -36,7 +36,7 @@ pub fn settle_form(
         return Ok(Normal::Nothing { labels });
     };
     let items = settled_items(alloc, items, fixed.as_slice())?;
-    let order = needed_order(alloc, items.as_slice(), order.as_slice(), fixed.as_slice())?;
+    let order = needed_order(items.as_slice(), order, fixed.as_slice())?;
     Ok(Normal::Some { sets, items, order })
 }
 

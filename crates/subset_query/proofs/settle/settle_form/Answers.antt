@@ -12,14 +12,13 @@ returns-in_default-clause-alike c =
     (none_alike c.args.schema.now.columns c.args.sets c.args.items c.args.order (subst HasNone c.as_slice.ensures (found_none _ _ c.in_ok-fixed.ensures c.in_default.is)))
 
 -- what the code made of the parts
-made : (c : goal.After-drop-order-inside-2) → AreMade c.args.sets c.args.items c.args.order c.in_ok-items.items c.in_ok-order.order
+made : (c : goal.After-drop-fixed-inside-2) → AreMade c.args.sets c.args.items c.args.order c.in_ok-items.items c.in_ok-order.order
 made c = record {
   only = c.in-Some.fixed;
   fixing = subst (λ ss. AreFixing ss c.in-Some.fixed) c.as_slice.ensures (found_some _ _ _ c.in_ok-fixed.ensures c.in-Some.is);
   items_are = c.in_ok-items.ensures ∙ ap (λ f. map (settled_item f) c.args.items) c.as_slice-2.ensures;
-  order_is = c.in_ok-order.ensures ∙ ap (λ f. needed_order f (printed_columns c.as_slice-3.result.now) c.as_slice-4.result.now) c.as_slice-5.ensures
-      ∙ ap (λ is. needed_order c.in-Some.fixed (printed_columns is) c.as_slice-4.result.now) c.as_slice-3.ensures
-      ∙ ap (λ ds. needed_order c.in-Some.fixed (printed_columns c.in_ok-items.items) ds) c.as_slice-4.ensures;
+  order_is = c.in_ok-order.ensures ∙ ap (λ f. needed_order f (printed_columns c.as_slice-3.result.now) c.args.order) c.as_slice-4.ensures
+      ∙ ap (λ is. needed_order c.in-Some.fixed (printed_columns is) c.args.order) c.as_slice-3.ensures;
 }
 
 pub returns-clause-settled : goal.returns-clause-settled
