@@ -1,6 +1,6 @@
 -- The sets of columns that a query's conditions choose.
-use Rattle.std.proofs.Common.{◌≡◌, ℕ, zero, suc, ◌+◌, ◌<◌, Bool, true, false, ◌&&◌, List, [], ◌∷◌, ◌++◌, Option, Some, None, length, take, drop, get_or, slice_get, slice_set, nat_lt, not, cond, is_none, map, drop-cons, refl, sym, ap, ◌∙◌, subst, arith}
-use Rattle.std.specs.List.{list_all, position, position_or_len}
+use Rattle.std.proofs.Common.{◌≡◌, ℕ, zero, suc, ◌+◌, ◌<◌, Bool, true, false, ◌&&◌, ◌||◌, List, [], ◌∷◌, ◌++◌, Option, Some, None, length, take, drop, get_or, slice_get, slice_set, nat_lt, not, cond, is_none, map, drop-cons, refl, sym, ap, ◌∙◌, subst, arith}
+use Rattle.std.specs.List.{list_all, list_any, position, position_or_len}
 use Rattle.std.specs.Option.{option_and_then}
 use Rattle.std.specs.Prelude.{unwrap_or}
 use Rattle.std.specs.Ordering.{is_eq}
@@ -136,15 +136,15 @@ pub found_within : (cs : List schema_column.Column) (name : List ℕ) (i : ℕ) 
 found_within cs name i e = (position-Some (λ c. is_eq (text_cmp c.name name)) cs i (record { name = []; kind = kinds.Int }) e).0
 
 -- one condition more
-pub narrow_more : (cs : List schema_column.Column) (ss : List ColumnSet) (conds : List OnColumn) (i : ℕ) (o : OnColumn) (place : ℕ) (c : schema_column.Column) (s met n : ColumnSet)
-    → i < length conds → o ≡ get_or conds i o → IsNarrowed cs ss conds (drop i conds) → Some place ≡ column_of cs o.column → s ≡ get_or ss place s
+pub narrow_one : (cs : List schema_column.Column) (ss : List ColumnSet) (conds rest : List OnColumn) (o : OnColumn) (place : ℕ) (c : schema_column.Column) (s met n : ColumnSet)
+    → IsNarrowed cs ss conds (o ∷ rest) → Some place ≡ column_of cs o.column → s ≡ get_or ss place s
     → is_set_for (get_or cs place c).kind met ≡ true → ((v : Value) → is_value_of (get_or cs place c).kind v ≡ true → in_set met v ≡ meets o.cond v)
     → own_kind n ≡ own_kind s → ((v : Value) → is_value_of (own_kind s) v ≡ true → in_set n v ≡ (in_set s v && in_set met v))
-    → IsNarrowed cs (slice_set ss place n) conds (drop (i + 1) conds)
-narrow_more cs ss conds i o place c s met n lt o_is h found s_is met_kind met_in n_kind n_in = record {
+    → IsNarrowed cs (slice_set ss place n) conds rest
+narrow_one cs ss conds rest o place c s met n h found s_is met_kind met_in n_kind n_in = record {
   kinds = narrow_kinds cs ss place c n h.kinds within (subst (λ k. is_set_for k n ≡ true) (n_kind ∙ own) (is_own n));
-  chosen = λ r f. ap (λ b. b && list_all (λ p. meets_on cs p r) (drop (i + 1) conds)) (narrow_rows cs ss place c s n o.cond h.kinds within cut r f ∙ ap (λ b. in_sets ss r && b) (on_it r))
-      ∙ sym (and_assoc (in_sets ss r) (meets_on cs o r) (list_all (λ p. meets_on cs p r) (drop (i + 1) conds))) ∙ ap (λ ps. in_sets ss r && list_all (λ p. meets_on cs p r) ps) (sym front) ∙ h.chosen r f;
+  chosen = λ r f. ap (λ b. b && list_all (λ p. meets_on cs p r) rest) (narrow_rows cs ss place c s n o.cond h.kinds within cut r f ∙ ap (λ b. in_sets ss r && b) (on_it r))
+      ∙ sym (and_assoc (in_sets ss r) (meets_on cs o r) (list_all (λ p. meets_on cs p r) rest)) ∙ h.chosen r f;
 }
   where
     within : place < length cs
@@ -159,6 +159,15 @@ narrow_more cs ss conds i o place c s met n lt o_is h found s_is met_kind met_in
     on_it : (r : List Value) → cell_meets o.cond (slice_get r place) ≡ meets_on cs o r
     on_it r = ap (λ p. cell_meets o.cond (option_and_then (λ j. slice_get r j) p)) found
 
+-- likewise, where the conditions left are those from a place on
+pub narrow_more : (cs : List schema_column.Column) (ss : List ColumnSet) (conds : List OnColumn) (i : ℕ) (o : OnColumn) (place : ℕ) (c : schema_column.Column) (s met n : ColumnSet)
+    → i < length conds → o ≡ get_or conds i o → IsNarrowed cs ss conds (drop i conds) → Some place ≡ column_of cs o.column → s ≡ get_or ss place s
+    → is_set_for (get_or cs place c).kind met ≡ true → ((v : Value) → is_value_of (get_or cs place c).kind v ≡ true → in_set met v ≡ meets o.cond v)
+    → own_kind n ≡ own_kind s → ((v : Value) → is_value_of (own_kind s) v ≡ true → in_set n v ≡ (in_set s v && in_set met v))
+    → IsNarrowed cs (slice_set ss place n) conds (drop (i + 1) conds)
+narrow_more cs ss conds i o place c s met n lt o_is h found s_is met_kind met_in n_kind n_in =
+    narrow_one cs ss conds (drop (i + 1) conds) o place c s met n (subst (λ ps. IsNarrowed cs ss conds ps) front h) found s_is met_kind met_in n_kind n_in
+  where
     one_more : (j : ℕ) → suc j ≡ j + 1
     one_more j = omega arith
 
@@ -182,6 +191,18 @@ none_position p xs e = by (nat_lt (position_or_len p xs) (length xs)) e
     by : (b : Bool) → cond b (Some (position_or_len p xs)) None ≡ None → b ≡ false
     by true h = cc
     by false h = refl
+
+none_any : {X : Type 0} (p : X → Bool) (xs : List X) → nat_lt (position_or_len p xs) (length xs) ≡ false → list_any p xs ≡ false
+none_any p [] h = refl
+none_any p (x ∷ xs) h = by (p x) refl h (λ n. none_any p xs n)
+  where
+    by : (b : Bool) → p x ≡ b → nat_lt (cond (not b) (1 + position_or_len p xs) 0) (length (x ∷ xs)) ≡ false → (nat_lt (position_or_len p xs) (length xs) ≡ false → list_any p xs ≡ false) → (p x || list_any p xs) ≡ false
+    by true e n more = absurd (grind (arith, nat_tests))
+    by false e n more = ap (λ b. b || list_any p xs) e ∙ more (grind (arith, nat_tests))
+
+-- where no place is that of a condition whose column is unknown, none is
+pub all_known : (cs : List schema_column.Column) (conds : List OnColumn) → position (λ (o : OnColumn). is_none (column_of cs o.column)) conds ≡ None → list_any (λ (o : OnColumn). is_none (column_of cs o.column)) conds ≡ false
+all_known cs conds e = none_any (λ (o : OnColumn). is_none (column_of cs o.column)) conds (none_position (λ (o : OnColumn). is_none (column_of cs o.column)) conds e)
 
 -- of conditions whose columns are all known none is unknown
 pub never_unknown : (cs : List schema_column.Column) (conds : List OnColumn) (i : ℕ) (o : OnColumn) → position (λ p. is_none (column_of cs p.column)) conds ≡ None → i < length conds → o ≡ get_or conds i o → None ≡ column_of cs o.column → ⊥

@@ -3,6 +3,8 @@ pub mod Cells
 pub mod Central
 pub mod Choosing
 pub mod Chosen
+pub mod Existing
+pub mod Expressible
 pub mod Faults
 pub mod FixedColumns
 pub mod Folding

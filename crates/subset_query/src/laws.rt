@@ -1,9 +1,14 @@
 // Laws of normal forms.
-ghost use Rattle.subset_query.specs.FormLaws.{SettledFormsAreCanonical, QueriesHaveOneForm};
+ghost use Rattle.subset_query.specs.FormLaws.{SettledFormsAreCanonical, QueriesHaveAForm, QueriesHaveOneForm};
 
 /// Settled forms of a schema are equal exactly where they give the same bytes on every table.
 pub fn settled_forms_are_canonical()
     ensures { SettledFormsAreCanonical }
+{}
+
+/// Each query without a fault whose values are values of columns has a settled form that gives its bytes on every table.
+pub fn queries_have_a_form()
+    ensures { QueriesHaveAForm }
 {}
 
 /// Of two queries the settled forms that give their bytes are equal exactly where the queries give the same bytes on

@@ -1,6 +1,8 @@
 // Queries that are written differently and ask the same, and queries that only look alike.
 use crate::notation::{Misread, query, schema};
-use crate::{Normal, check, normal, queries_have_one_form, settled_forms_are_canonical};
+use crate::{
+    Normal, check, normal, queries_have_a_form, queries_have_one_form, settled_forms_are_canonical,
+};
 use cite_schema::{ByteText, Query, Schema};
 use std::alloc::Global;
 use std::test::Fail;
@@ -364,5 +366,6 @@ fn orders_make_a_difference(rt: HostRuntime) -> Result<(), Fail> {
 #[test]
 fn the_laws_hold() {
     settled_forms_are_canonical();
+    queries_have_a_form();
     queries_have_one_form();
 }
