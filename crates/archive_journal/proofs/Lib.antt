@@ -1,0 +1,6 @@
+pub mod Images
+pub mod Opening
+pub mod Parts
+pub mod Places
+pub mod Steps
+pub mod Unique
