@@ -1,5 +1,5 @@
 -- Columns that make a schema have no fault.
-use Rattle.std.proofs.Common.{◌≡◌, true, Option, Some, List, ap, sym, ◌∙◌}
+use Rattle.std.proofs.Common.{◌≡◌, true, Some, List, ap, sym, ◌∙◌}
 use Rattle.std.specs.Prelude.{is_none}
 use Rattle.cite_schema.specs.Headings.{heading_fault, is_heading}
 use Rattle.cite_schema.specs.declared.schema.Column.{Column}

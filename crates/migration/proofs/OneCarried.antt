@@ -13,11 +13,11 @@ use Rattle.migration.specs.Forms.{parts_after, Carries}
 use Rattle.migration.specs.CarryLaws.{CarriedToOne, CarriedSettled, FormsAreCarriedToOneForm}
 
 -- the settled form of parts is one
-one_settled : (columns : List Column) (o : Option Plan) (a b : Normal) → IsSomeAnd o (λ p. IsSettled columns a × Alike columns p (formed a)) → IsSomeAnd o (λ p. IsSettled columns b × Alike columns p (formed b)) → a ≡ b
+pub one_settled : (columns : List Column) (o : Option Plan) (a b : Normal) → IsSomeAnd o (λ p. IsSettled columns a × Alike columns p (formed a)) → IsSomeAnd o (λ p. IsSettled columns b × Alike columns p (formed b)) → a ≡ b
 one_settled columns None a b h k = absurd h
 one_settled columns (Some p) a b h k = one_form columns a b h.0 k.0 (alike_on columns (formed a) p (formed b) (alike_back columns p (formed a) h.1) k.1)
 
-settled_one : (columns : List Column) (o : Option Plan) (a : Normal) → IsSomeAnd o (λ p. IsSettled columns a × Alike columns p (formed a)) → IsSettled columns a
+pub settled_one : (columns : List Column) (o : Option Plan) (a : Normal) → IsSomeAnd o (λ p. IsSettled columns a × Alike columns p (formed a)) → IsSettled columns a
 settled_one columns None a h = absurd h
 settled_one columns (Some p) a h = h.0
 

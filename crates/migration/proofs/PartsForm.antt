@@ -269,7 +269,7 @@ there_lt (y ∷ ys) (suc i) x e = let more = there_lt ys i x e in omega arith
 many_lt : (cs : List schema_column.Column) (ss : List ColumnSet) (i : ℕ) → IsMany cs ss i → i < length cs
 many_lt cs ss i h = let (d, at) = many_there (slice_get cs i) (slice_get ss i) h in there_lt cs i d at
 
-shown_in : (cs : List schema_column.Column) (ss : List ColumnSet) (items : List Item) → AllByRecursion (λ (i : Item). IsShownOf cs ss i.what) items → AreShownIn cs items
+pub shown_in : (cs : List schema_column.Column) (ss : List ColumnSet) (items : List Item) → AllByRecursion (λ (i : Item). IsShownOf cs ss i.what) items → AreShownIn cs items
 shown_in cs ss [] h = tt
 shown_in cs ss (i ∷ is) h = (by i.what h.0, shown_in cs ss is h.1)
   where
@@ -277,7 +277,7 @@ shown_in cs ss (i ∷ is) h = (by i.what h.0, shown_in cs ss is h.1)
     by (Column j) k = many_lt cs ss j k
     by (Constant bs) k = tt
 
-columns_in : (cs : List schema_column.Column) (ss : List ColumnSet) (items : List Item) (order : List Dir) → IsForm cs ss items order → AreColumnsIn cs order
+pub columns_in : (cs : List schema_column.Column) (ss : List ColumnSet) (items : List Item) (order : List Dir) → IsForm cs ss items order → AreColumnsIn cs order
 columns_in cs ss items order s = by [] order refl
   where
     by : (front back : List Dir) → order ≡ front ++ back → AllByRecursion (λ (d : Dir). d.column < length cs) back
@@ -285,7 +285,7 @@ columns_in cs ss items order s = by [] order refl
     by front (d ∷ ds) e = (many_lt cs ss d.column (s.order_fits.each front d ds e).many, by (front ++ d ∷ []) ds (e ∙ sym (append_assoc front (d ∷ []) ds)))
 
 -- what is shown stays shown where there are as many columns, or more
-shown_among : (cs ds : List schema_column.Column) (items : List Item) → length cs ≤ length ds → AreShownIn cs items → AreShownIn ds items
+pub shown_among : (cs ds : List schema_column.Column) (items : List Item) → length cs ≤ length ds → AreShownIn cs items → AreShownIn ds items
 shown_among cs ds [] le h = tt
 shown_among cs ds (i ∷ is) le h = (by i.what h.0, shown_among cs ds is le h.1)
   where
@@ -293,7 +293,7 @@ shown_among cs ds (i ∷ is) le h = (by i.what h.0, shown_among cs ds is le h.1)
     by (Column j) k = omega arith
     by (Constant bs) k = tt
 
-columns_among : (cs ds : List schema_column.Column) (order : List Dir) → length cs ≤ length ds → AreColumnsIn cs order → AreColumnsIn ds order
+pub columns_among : (cs ds : List schema_column.Column) (order : List Dir) → length cs ≤ length ds → AreColumnsIn cs order → AreColumnsIn ds order
 columns_among cs ds [] le h = tt
 columns_among cs ds (d ∷ order) le h = (omega (arith, h.0), columns_among cs ds order le h.1)
 
@@ -326,7 +326,7 @@ number_fits i j cs lt apart = by (nat_lt i j) refl (cases_lt i (length cs))
         below n m h = grind (arith, nat_tests)
     by false h (inr k) = let same = as_long i cs k in omega arith
 
-shown_left : (i : ℕ) (cs : List schema_column.Column) (items : List Item) → AreShownIn cs items → is_among i (printed_columns items) ≡ false → AreShownIn (without i cs) (map (item_without i) items)
+pub shown_left : (i : ℕ) (cs : List schema_column.Column) (items : List Item) → AreShownIn cs items → is_among i (printed_columns items) ≡ false → AreShownIn (without i cs) (map (item_without i) items)
 shown_left i cs [] h n = tt
 shown_left i cs (it ∷ is) h n =
     let (here, more) = neither (is_among i (columns_of it.what)) (is_among i (printed_columns is)) (sym (list_any-append (λ c. c == i) (columns_of it.what) (printed_columns is)) ∙ n) in
@@ -336,13 +336,13 @@ shown_left i cs (it ∷ is) h n =
     by (Column j) k m = number_fits i j cs k (other j i (neither (j == i) false m).0)
     by (Constant bs) k m = tt
 
-columns_left : (i : ℕ) (cs : List schema_column.Column) (order : List Dir) → AreColumnsIn cs order → is_among i (order_columns order) ≡ false → AreColumnsIn (without i cs) (map (dir_without i) order)
+pub columns_left : (i : ℕ) (cs : List schema_column.Column) (order : List Dir) → AreColumnsIn cs order → is_among i (order_columns order) ≡ false → AreColumnsIn (without i cs) (map (dir_without i) order)
 columns_left i cs [] h n = tt
 columns_left i cs (d ∷ ds) h n =
     let (here, more) = neither (d.column == i) (is_among i (order_columns ds)) n in
     (number_fits i d.column cs h.0 (other d.column i here), columns_left i cs ds h.1 more)
 
-some_mapped : {A B : Type 0} (f : A → B) (xs : List A) → xs ≢ [] → map f xs ≢ []
+pub some_mapped : {A B : Type 0} (f : A → B) (xs : List A) → xs ≢ [] → map f xs ≢ []
 some_mapped f [] h e = h refl
 some_mapped f (x ∷ xs) h e = cc
 

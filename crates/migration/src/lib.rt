@@ -8,14 +8,22 @@
 #![tactic(auto)]
 
 mod columns;
+mod copies;
 mod fault;
+mod form;
+mod harm;
 mod laws;
 mod numbers;
+mod parts;
 mod places;
 mod row;
 mod schema;
+mod sets;
+mod spans;
 
 pub use fault::StepFault;
+pub use form::carry_normal;
+pub use harm::harmless;
 pub use laws::{
     carried_columns_make_schemas, carried_keys_stay, carried_tables_are_tables,
     forms_are_carried_to_one_form, harmless_steps_carry, parts_have_a_form,

@@ -1,5 +1,5 @@
 // Carrying schemas.
-ghost use Rattle.std.specs.Prelude.{◌≡◌, ◌≢◌, ◌<◌, ◌-◌, ◌^◌, ◌+◌, IfOk, IfErr, IsTrue, None, Ok, Err, length, ◌≤◌};
+ghost use Rattle.std.specs.Prelude.{ℕ, ◌≡◌, ◌≢◌, ◌<◌, ◌-◌, ◌^◌, ◌+◌, IfOk, IfErr, IsTrue, None, Ok, Err, length, ◌≤◌};
 ghost use Rattle.cite_schema.specs.Headings.{is_heading};
 ghost use Rattle.migration.specs.Columns.{columns_after, columns_after_all, carry_schema, step_fault};
 
@@ -55,4 +55,28 @@ fn carried_columns(columns: List<Column>, steps: &[Step]) -> Result<List<Column>
         carried = columns_after(carried, &steps[i])?;
     }
     Ok(carried)
+}
+
+/// The same schema again.
+pub fn copied_schema(alloc: Global, schema: &Schema) -> Result<Schema, NoMemory>
+    ensures { IfOk result (λ copied. copied ≡ schema.now) }
+{
+    let columns = copied_columns(alloc, schema.columns().as_slice())?;
+    match Schema::make(schema.number(), columns) {
+        Ok(copied) => Ok(copied),
+        Err(_) => unreachable!(),
+    }
+}
+
+/// The schema after a step without a fault, with the number that it had.
+pub fn schema_after(schema: Schema, step: &Step) -> Result<Schema, NoMemory>
+    requires { (n : ℕ) × (step_fault schema.columns n step.now ≡ None) }
+    ensures { IfOk result (λ after. after ≡ record { number = schema.number; columns = columns_after schema.columns step.now }) }
+{
+    let number = schema.number();
+    let columns = columns_after(schema.into_columns(), step)?;
+    match Schema::make(number, columns) {
+        Ok(after) => Ok(after),
+        Err(_) => unreachable!(),
+    }
 }

@@ -1,5 +1,4 @@
-use Rattle.std.proofs.Common.{◌≡◌, ℕ, zero, suc, List, [], ◌∷◌, refl, sym, ap, ◌∙◌}
-use Rattle.cite_schema.specs.declared.step.Step.{Step}
+use Rattle.std.proofs.Common.{sym, ap, ◌∙◌}
 use Rattle.migration.specs.Columns.{columns_after}
 use Rattle.migration.proofs.Placed.{itself}
 use Rattle.migration.proofs.columns.columns_after.Goals as goal

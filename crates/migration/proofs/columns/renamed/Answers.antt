@@ -1,4 +1,4 @@
-use Rattle.std.proofs.Common.{◌≡◌, ◌≤◌, ◌<◌, length, slice_set, sym, ap, ◌∙◌, arith}
+use Rattle.std.proofs.Common.{◌≤◌, ◌<◌, length, slice_set, sym, ap, ◌∙◌, arith}
 use Rattle.cite_schema.specs.declared.schema.Column.{Column}
 use Rattle.migration.specs.Places.{changed}
 use Rattle.migration.proofs.Placed.{set_changed, none_changed}

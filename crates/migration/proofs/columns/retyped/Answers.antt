@@ -1,4 +1,4 @@
-use Rattle.std.proofs.Common.{◌≡◌, ◌≤◌, ◌<◌, length, slice_set, sym, ap, ◌∙◌, arith}
+use Rattle.std.proofs.Common.{◌≤◌, ◌<◌, length, slice_set, sym, ap, ◌∙◌, arith}
 use Rattle.cite_schema.specs.declared.schema.Column.{Column}
 use Rattle.cite_schema.specs.declared.value.Kind.TheVariants.{Text}
 use Rattle.migration.specs.Places.{changed}

@@ -1,4 +1,4 @@
-use Rattle.std.proofs.Common.{◌≡◌, ◌*ℤ◌, ◌≤◌, ◌+◌, ◌^◌, subst, sym, arith}
+use Rattle.std.proofs.Common.{◌*ℤ◌, ◌≤◌, ◌^◌, subst, sym, arith}
 use Rattle.std.specs.Prelude.{unsigned_abs}
 use Rattle.std.proofs.lemmas.Int.{to_z-of_z}
 use Rattle.migration.proofs.Products.{number_within, wide, product_within}

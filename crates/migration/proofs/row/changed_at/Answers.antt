@@ -1,5 +1,4 @@
-use Rattle.std.proofs.Common.{◌≡◌, ◌≤◌, ◌<◌, Option, Some, None, List, length, slice_set, get_or, sym, ap, ◌∙◌, arith}
-use Rattle.cite_schema.specs.declared.value.Value.{Value}
+use Rattle.std.proofs.Common.{◌≤◌, ◌<◌, Some, length, sym, ap, ◌∙◌, arith}
 use Rattle.migration.specs.Places.{changed_if}
 use Rattle.migration.specs.Rows.{value_after}
 use Rattle.migration.proofs.Placed.{set_changed_if, not_changed_if, none_changed_if}

@@ -1,6 +1,5 @@
-use Rattle.std.proofs.Common.{◌≡◌, ℕ, zero, suc, List, [], ◌∷◌, Some, refl, sym, ap, ◌∙◌}
-use Rattle.cite_schema.specs.declared.value.Value.{Value}
-use Rattle.migration.specs.Rows.{row_after, value_after}
+use Rattle.std.proofs.Common.{sym, ap, ◌∙◌}
+use Rattle.migration.specs.Rows.{row_after}
 use Rattle.migration.proofs.Placed.{renamed_row}
 use Rattle.migration.proofs.row.values_after.Goals as goal
 
