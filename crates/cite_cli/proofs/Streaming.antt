@@ -1,17 +1,33 @@
 -- One call of a source or a sink after another.
-use Rattle.std.proofs.Common.{◌≡◌, ◌+◌, ◌-◌, ℕ, List, ◌++◌, Option, None, Some, ap, sym, ◌∙◌, append_assoc, take, drop, length, length-drop}
+use Rattle.std.proofs.Common.{◌≡◌, ◌+◌, ◌-◌, ℕ, List, [], ◌∷◌, ◌++◌, Option, None, Some, ap, sym, ◌∙◌, append_assoc, append-nil, take, drop, length, length-drop}
 use Rattle.std.proofs.Math.Seq.{take-length, take-add}
-use Rattle.std.specs.Prelude.{option_map}
-use Rattle.cite_ports.specs.Ports.{Holds}
-use Rattle.cite_cli.specs.Streams.{Taken}
+use Rattle.cite_ports.specs.Ports.{EndsExactly, Gives, Holds}
+use Rattle.cite_cli.specs.Streams.{AllTaken, Taken}
 
 pub holds_more : (a b c : Option (List ℕ)) (xs ys : List ℕ) → Holds xs a b → Holds ys b c → Holds (xs ++ ys) a c
-holds_more None b c xs ys p q = q ∙ ap (option_map (λ had. had ++ ys)) p
-holds_more (Some x) b c xs ys p q = q ∙ ap (option_map (λ had. had ++ ys)) p ∙ ap Some (append_assoc x xs ys)
+holds_more None b c xs ys p q = tt
+holds_more (Some x) None c xs ys p q = absurd p
+holds_more (Some x) (Some y) None xs ys p q = absurd q
+holds_more (Some x) (Some y) (Some z) xs ys p q = q ∙ ap (λ had. had ++ ys) p ∙ append_assoc x xs ys
 
 pub taken_more : (a b c : Option (List ℕ)) (xs ys : List ℕ) → Taken xs a b → Taken ys b c → Taken (xs ++ ys) a c
-taken_more a b None xs ys p q = p ∙ ap (option_map (λ rest. xs ++ rest)) q
-taken_more a b (Some r) xs ys p q = p ∙ ap (option_map (λ rest. xs ++ rest)) q ∙ ap Some (sym (append_assoc xs ys r))
+taken_more None b c xs ys p q = tt
+taken_more (Some x) None c xs ys p q = absurd p
+taken_more (Some x) (Some y) None xs ys p q = absurd q
+taken_more (Some x) (Some y) (Some z) xs ys p q = p ∙ ap (λ rest. xs ++ rest) q ∙ sym (append_assoc xs ys z)
+
+no_rest : (xs ys : List ℕ) → [] ≡ xs ++ ys → ys ≡ []
+no_rest [] ys e = sym e
+no_rest (x ∷ xs) ys e = cc
+
+-- where a call gives nothing, what was taken before was all
+pub all_taken : (a b c : Option (List ℕ)) (xs into : List ℕ) (n : ℕ) → Taken xs a b → Gives n into b c → EndsExactly n b → n ≡ 0 → AllTaken xs a c
+all_taken None b c xs into n p q end zero = tt
+all_taken (Some x) None c xs into n p q end zero = absurd p
+all_taken (Some x) (Some y) None xs into n p q end zero = absurd q
+all_taken (Some x) (Some y) (Some z) xs into n p q end zero =
+    let empty : y ≡ [] = end.0 zero in
+    (p ∙ ap (λ rest. xs ++ rest) empty ∙ append-nil xs, ap Some (no_rest (take n into) z (sym empty ∙ q)))
 
 pub rest_whole : {A : Type 0} (at : ℕ) (bytes : List A) → take (length bytes - at) (drop at bytes) ≡ drop at bytes
 rest_whole at bytes = rw (← length-drop at bytes) (take-length (drop at bytes))

@@ -1,17 +1,18 @@
 -- What a command took of its source and put into its sink, where these tell their content.
-use Rattle.std.specs.Prelude.{◌≡◌, ◌<◌, ◌≤◌, ◌+◌, ◌++◌, ℕ, List, Option, option_map, length, take, ⊤}
-use Rattle.std.specs.Io.KnownBytes.{IsAtEnd}
+use Rattle.std.specs.Prelude.{◌≡◌, ◌<◌, ◌≤◌, ◌+◌, ℕ, List, [], Option, Some, None, length, take, ⊤}
+use Rattle.std.specs.Io.KnownBytes.{Consumes}
 use Rattle.cite_ports.specs.Ports.{Holds, Rose}
 use Rattle.cite_cli.specs.declared.input.Stop.{Stop}
 use Rattle.cite_cli.specs.declared.input.Stop.TheVariants as stop
 
 -- these bytes were taken off the front
 abbrev pub Taken : List ℕ → Option (List ℕ) → Option (List ℕ) → Type 0
-Taken bytes old new = old ≡ option_map (λ rest. bytes ++ rest) new
+Taken bytes old new = Consumes old new bytes
 
--- these bytes were taken, and they were all
+-- these bytes were left, and all of them were taken
 abbrev pub AllTaken : List ℕ → Option (List ℕ) → Option (List ℕ) → Type 0
-AllTaken bytes old new = Taken bytes old new × IsAtEnd new
+AllTaken bytes None new = ⊤
+AllTaken bytes (Some left) new = (left ≡ bytes) × (new ≡ Some [])
 
 -- why an input was not read to its end
 abbrev pub StopsBecause : ℕ → Option (List ℕ) → Option (List ℕ) → ℕ → ℕ → Stop → Type 0

@@ -1,5 +1,7 @@
--- What a call of a source or a sink does. The content is `None` where it is not told.
-use Rattle.std.specs.Prelude.{◌≡◌, ◌≤◌, ◌+◌, ◌-◌, ◌^◌, ◌↔◌, ◌++◌, ℕ, List, [], Option, Some, None, min, take, ⊤, option_map}
+-- What a call of a source or a sink does. The content is `None` where it is not told, and then nothing is said of it, as
+-- std says nothing of it at its own readers and writers.
+use Rattle.std.specs.Prelude.{◌≡◌, ◌≤◌, ◌+◌, ◌-◌, ◌^◌, ◌↔◌, ℕ, List, [], Option, Some, None, min, take, ⊤}
+use Rattle.std.specs.Io.KnownBytes.{Appends, Consumes}
 
 -- the number after this one, where a `u64` that counts stands still at its last value
 abbrev pub next_count : ℕ → ℕ
@@ -11,7 +13,7 @@ Rose old new = next_count old ≤ new
 
 -- what was left before is the first n bytes of `into`, and then what is left now
 abbrev pub Gives : ℕ → List ℕ → Option (List ℕ) → Option (List ℕ) → Type 0
-Gives n into old new = old ≡ option_map (λ rest. take n into ++ rest) new
+Gives n into old new = Consumes old new (take n into)
 
 -- no byte comes exactly where none was left
 abbrev pub EndsExactly : ℕ → Option (List ℕ) → Type 0
@@ -20,4 +22,4 @@ EndsExactly n (Some left) = (n ≡ 0) ↔ (left ≡ [])
 
 -- what is written now is what was written before, and then this piece
 abbrev pub Holds : List ℕ → Option (List ℕ) → Option (List ℕ) → Type 0
-Holds piece old new = new ≡ option_map (λ had. had ++ piece) old
+Holds piece old new = Appends old new piece

@@ -1,5 +1,6 @@
 // A sink whose bytes lie in memory.
 ghost use Rattle.std.specs.Prelude.{◌≡◌, ◌<◌, ◌≤◌, take, length, Some, Contains, IsErr, IsOkAnd, IfOk, OnOk, OnErr};
+ghost use Rattle.std.specs.Io.KnownBytes.{Keeps};
 ghost use Rattle.cite_ports.specs.Ports.{Holds, Rose, next_count};
 ghost use Rattle.cite_ports.specs.MemoryPorts.{new_sink, sink_that_took, sink_that_failed};
 
@@ -60,7 +61,7 @@ impl Sink for MemorySink {
         ensures some { IfOk result (λ n. 0 < n) }
         ensures room { IfOk result (λ n. n ≤ length piece.now) }
         ensures puts { IfOk result (λ n. Holds (take n piece.now) (Some self.old.bytes) (Some self.new.bytes)) }
-        ensures kept { OnErr result (Some self.new.bytes ≡ Some self.old.bytes) }
+        ensures kept { OnErr result (Keeps (Some self.old.bytes) (Some self.new.bytes)) }
         ensures never_falls { self.old.faults ≤ self.new.faults }
         ensures cause { OnErr result (Rose self.old.faults self.new.faults) }
 

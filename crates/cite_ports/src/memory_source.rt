@@ -1,5 +1,6 @@
 // A source whose bytes lie in memory.
 ghost use Rattle.std.specs.Prelude.{◌≡◌, ◌<◌, ◌≤◌, ◌↔◌, min, drop, length, Some, Contains, IsErr, IsOkAnd, IfOk, OnErr};
+ghost use Rattle.std.specs.Io.KnownBytes.{Keeps};
 ghost use Rattle.cite_ports.specs.Ports.{Gives, EndsExactly, Rose, next_count};
 ghost use Rattle.cite_ports.specs.MemoryPorts.{new_source, source_that_gave, source_that_failed};
 
@@ -62,7 +63,7 @@ impl Source for MemorySource {
         ensures room { IfOk result (λ n. n ≤ length into.new) }
         ensures gives { IfOk result (λ n. Gives n into.new (Some self.old.rest) (Some self.new.rest)) }
         ensures end { IfOk result (λ n. EndsExactly n (Some self.old.rest)) }
-        ensures kept { OnErr result (Some self.new.rest ≡ Some self.old.rest) }
+        ensures kept { OnErr result (Keeps (Some self.old.rest) (Some self.new.rest)) }
         ensures never_falls { self.old.faults ≤ self.new.faults }
         ensures cause { OnErr result (Rose self.old.faults self.new.faults) }
 

@@ -1,5 +1,6 @@
 // What takes bytes.
 ghost use Rattle.std.specs.Prelude.{◌≡◌, ◌<◌, ◌≤◌, ℕ, List, Option, length, take, IfOk, OnErr};
+ghost use Rattle.std.specs.Io.KnownBytes.{Keeps};
 ghost use Rattle.cite_ports.specs.Ports.{Holds, Rose};
 
 use crate::failed::Failed;
@@ -28,7 +29,7 @@ pub trait Sink {
         ensures some { IfOk result (λ n. 0 < n) }
         ensures room { IfOk result (λ n. n ≤ length piece.now) }
         ensures puts { IfOk result (λ n. Holds (take n piece.now) (written self.old) (written self.new)) }
-        ensures kept { OnErr result (written self.new ≡ written self.old) }
+        ensures kept { OnErr result (Keeps (written self.old) (written self.new)) }
         ensures never_falls { faults_of self.old ≤ faults_of self.new }
         ensures cause { OnErr result (Rose (faults_of self.old) (faults_of self.new)) };
 

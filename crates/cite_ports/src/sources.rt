@@ -1,5 +1,6 @@
 // What gives bytes.
 ghost use Rattle.std.specs.Prelude.{◌≡◌, ◌<◌, ◌≤◌, ℕ, List, Option, length, IfOk, OnErr};
+ghost use Rattle.std.specs.Io.KnownBytes.{Keeps};
 ghost use Rattle.cite_ports.specs.Ports.{Gives, EndsExactly, Rose};
 
 use crate::failed::Failed;
@@ -27,7 +28,7 @@ pub trait Source {
         ensures room { IfOk result (λ n. n ≤ length into.new) }
         ensures gives { IfOk result (λ n. Gives n into.new (left self.old) (left self.new)) }
         ensures end { IfOk result (λ n. EndsExactly n (left self.old)) }
-        ensures kept { OnErr result (left self.new ≡ left self.old) }
+        ensures kept { OnErr result (Keeps (left self.old) (left self.new)) }
         ensures never_falls { faults_of self.old ≤ faults_of self.new }
         ensures cause { OnErr result (Rose (faults_of self.old) (faults_of self.new)) };
 

@@ -1,39 +1,27 @@
 //! The program: `cite_prog FILE WORD..` runs the command of the words over standard input and standard output, and ends
 //! with its status. FILE will hold the archive; no command of today opens it. Without it the status is 2. Nothing is
 //! written to standard error.
+//!
+//! `answer` is the program over any source and any sink, and `Words::of` reads its words; `main` hands them standard input
+//! and standard output.
 #![tactic(auto)]
 
+mod program;
 mod streams;
+#[cfg(test)]
+mod tests;
+mod words;
 
-use cite_cli::run;
-use std::alloc::Global;
-use std::env::{self, Env};
-use std::io;
+use program::answer;
 use std::process::ExitCode;
+use std::{env, io};
 use streams::{Input, Output};
+use words::Words;
 
 fn main(rt: HostRuntime) -> ExitCode {
     let alloc = rt.alloc();
-    match words(&rt, alloc) {
-        Ok(Some(words)) => {
-            let mut source = Input::new(rt.reader());
-            let mut sink = Output::new(io::writer(&rt));
-            ExitCode::from(run(&rt, alloc, &words, &mut source, &mut sink))
-        }
-        Ok(None) => ExitCode::from(2),
-        Err(_) => ExitCode::from(8),
-    }
-}
-
-// The words behind the program's name and the file's, if there is a file.
-fn words(rt: &(impl Env + AllocGlobal), alloc: Global) -> io::Result<Option<Vec<String>>> {
-    let mut args = env::args(rt)?.skip(1);
-    if args.next().is_none() {
-        return Ok(None);
-    }
-    let mut words = Vec::new(alloc);
-    for word in args {
-        words.push(word)?;
-    }
-    Ok(Some(words))
+    let words = Words::of(alloc, env::args(&rt));
+    let mut source = Input::new(rt.reader());
+    let mut sink = Output::new(io::writer(&rt));
+    ExitCode::from(answer(&rt, alloc, &words, &mut source, &mut sink))
 }

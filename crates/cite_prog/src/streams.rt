@@ -1,23 +1,26 @@
-// Readers and writers as sources and sinks: part of the trusted edge, since no clause can say what a
-// stream outside the program gives or takes.
-ghost use Rattle.std.specs.Prelude.{None, ◌<◌, ◌≤◌, length, IfSome};
+// Readers and writers as sources and sinks. What std tells of a reader's or a writer's content, these tell; of the streams
+// of the operating system it tells nothing, and there the operating system is trusted.
+ghost use Rattle.std.specs.Prelude.{◌≡◌, ◌<◌, length};
+ghost use Rattle.std.specs.Io.{ReadsAtMost, WritesAtMost};
+ghost use Rattle.std.specs.Io.KnownBytes.{ReadConsumes, WriteAppends};
 
 use cite_ports::{Failed, Sink, Source};
-use std::io::{ErrorKind, Read, Write};
+use std::io::{self, ErrorKind, Read, Write};
 
-// How often a call that a signal interrupted is made again before it counts as a fault.
+// How often a call that a signal interrupted is made before it counts as a fault.
 const TRIES: u32 = 1000;
 
-/// A source over a reader. It tells nothing of its content, and counts a fault at each error.
+/// A source over a reader: what is left is what remains of the reader, where it tells that. It counts a fault at each
+/// error.
 #[derive(Drop)]
 pub struct Input<R> {
     reader: R,
     faults: u64,
 }
 
-/// A sink over a writer. It tells nothing of its content, and counts a fault at each error and where the
-/// writer takes no byte. What it puts is flushed at once, in one write for each piece where the writer
-/// takes it whole, so whoever waits for an answer gets it: a writer with no buffer of its own serves best.
+/// A sink into a writer: what was written is the writer's contents, where it tells them. It counts a fault at each error
+/// and where the writer takes no byte. It doesn't flush: give it a writer with no buffer of its own, so that whoever waits
+/// for an answer gets it.
 #[derive(Drop)]
 pub struct Output<W> {
     writer: W,
@@ -26,29 +29,37 @@ pub struct Output<W> {
 
 impl<R: Read> Input<R> {
     /// A source of what the reader gives, with no fault counted.
-    pub fn new(reader: R) -> Input<R> {
+    pub fn new(reader: R) -> Input<R>
+        ensures reader { result.reader ≡ reader }
+        ensures faults { result.faults ≡ 0 }
+    {
         Input { reader, faults: 0 }
     }
 }
 
 impl<W: Write> Output<W> {
     /// A sink into the writer, with no fault counted.
-    pub fn new(writer: W) -> Output<W> {
+    pub fn new(writer: W) -> Output<W>
+        ensures writer { result.writer ≡ writer }
+        ensures faults { result.faults ≡ 0 }
+    {
         Output { writer, faults: 0 }
     }
 }
 
 impl<R: Read> Source for Input<R> {
-    ghost left = { λ _. None };
+    ghost left = { λ s. R.remaining s.reader };
 
     ghost faults_of = { λ s. s.faults };
 
     fn take(&mut self, into: &mut [u8]) -> Result<usize, Failed> {
-        if let Some(count) = read_count(&mut self.reader, into) {
-            return Ok(count);
+        match read_retrying(&mut self.reader, into) {
+            Ok(count) => Ok(count),
+            Err(_) => {
+                self.faults = self.faults.saturating_add(1);
+                Err(Failed)
+            }
         }
-        self.faults = self.faults.saturating_add(1);
-        Err(Failed)
     }
 
     fn faults(&self) -> u64 {
@@ -57,16 +68,18 @@ impl<R: Read> Source for Input<R> {
 }
 
 impl<W: Write> Sink for Output<W> {
-    ghost written = { λ _. None };
+    ghost written = { λ s. W.contents s.writer };
 
     ghost faults_of = { λ s. s.faults };
 
     fn put(&mut self, piece: &[u8]) -> Result<usize, Failed> {
-        if let Some(count) = written_count(&mut self.writer, piece) {
-            return Ok(count);
+        match write_retrying(&mut self.writer, piece) {
+            Ok(count) if count > 0 => Ok(count),
+            _ => {
+                self.faults = self.faults.saturating_add(1);
+                Err(Failed)
+            }
         }
-        self.faults = self.faults.saturating_add(1);
-        Err(Failed)
     }
 
     fn faults(&self) -> u64 {
@@ -74,32 +87,30 @@ impl<W: Write> Sink for Output<W> {
     }
 }
 
-// How many bytes the reader gave, or `None` at an error.
-fn read_count<R: Read>(reader: &mut R, into: &mut [u8]) -> Option<usize>
-    ensures { IfSome result (λ n. n ≤ length into.new) }
+// Reads once, and again where a signal interrupted the call.
+fn read_retrying<R: Read>(reader: &mut R, into: &mut [u8]) -> io::Result<usize>
+    ensures room { ReadsAtMost result into.new }
+    ensures bytes { ReadConsumes (R.remaining reader.old) (R.remaining reader.new) result into.new }
 {
-    for _ in 0..TRIES {
+    for _ in 1..TRIES {
         match reader.read(into) {
-            Ok(count) => return Some(count),
             Err(error) if error.kind() == ErrorKind::Interrupted => {}
-            Err(_) => return None,
+            result => return result,
         }
     }
-    None
+    reader.read(into)
 }
 
-// How many bytes the writer took and passed on, or `None` at an error and where it took none.
-fn written_count<W: Write>(writer: &mut W, piece: &[u8]) -> Option<usize>
-    ensures some { IfSome result (λ n. 0 < n) }
-    ensures room { IfSome result (λ n. n ≤ length piece.now) }
+// Writes once, and again where a signal interrupted the call.
+fn write_retrying<W: Write>(writer: &mut W, piece: &[u8]) -> io::Result<usize>
+    ensures room { WritesAtMost result piece.now }
+    ensures bytes { WriteAppends (W.contents writer.old) (W.contents writer.new) result piece.now }
 {
-    for _ in 0..TRIES {
+    for _ in 1..TRIES {
         match writer.write(piece) {
-            Ok(0) => return None,
-            Ok(count) => return writer.flush().ok().map(|_| count),
             Err(error) if error.kind() == ErrorKind::Interrupted => {}
-            Err(_) => return None,
+            result => return result,
         }
     }
-    None
+    writer.write(piece)
 }
