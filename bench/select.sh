@@ -1,5 +1,6 @@
 #!/usr/bin/env bash
-# Measures `select` against plain Rust and, where they are there, Miller and SQLite.
+# Measures `select` against plain Rust, once as it comes to mind (a map of rows) and once as fast as it
+# goes (fields in place, a sorted vector of keys), and, where they are there, Miller and SQLite.
 #
 #   bench/select.sh [ROWS [RUNS]]        (3000000 rows and 5 runs if left out)
 #
@@ -50,6 +51,8 @@ ours() { "$program" archive select depth 100 200; }
 
 plain() { "$work/plain_select" depth 100 200; }
 
+fast() { "$work/fast_select" depth 100 200; }
+
 miller() {
     sed '1s/:int//g; 1s/:text//g' | mlr --icsv --ocsv --quote-all filter '$depth >= 100 && $depth < 200' then sort $sorted
 }
@@ -59,7 +62,7 @@ sqlite() {
         'select * from t where depth >= 100 and depth < 200 order by 1'
 }
 
-export -f ours plain miller sqlite
+export -f ours plain fast miller sqlite
 export work
 
 # Runs one program once, and adds a line of its seconds and kilobytes.
@@ -75,7 +78,9 @@ best() { # program table column
 need rustc
 need awk
 command time --version > /dev/null 2>&1 || { echo "select.sh: GNU time is missing" >&2; exit 1; }
-rustc --edition 2021 -O "$here/plain_select.rs" -o "$work/plain_select"
+for yardstick in plain fast; do
+    rustc --edition 2021 -O "$here/${yardstick}_select.rs" -o "$work/${yardstick}_select"
+done
 program=${SELECT_PROGRAM:-}
 if [ -z "$program" ]; then
     need rt
@@ -86,7 +91,7 @@ if [ -z "$program" ]; then
 fi
 export program
 
-programs=(ours plain)
+programs=(ours plain fast)
 if command -v mlr > /dev/null; then programs+=(miller); else echo "Miller (mlr) is missing: skipped"; fi
 if command -v sqlite3 > /dev/null; then programs+=(sqlite); else echo "sqlite3 is missing: skipped"; fi
 
@@ -103,12 +108,14 @@ for order in rising shuffled texts text-keys; do
     for ((run = 0; run < runs; run++)); do
         for name in "${programs[@]}"; do measure "$name" "$order"; done
     done
-    cmp "$work/ours.$order.out" "$work/plain.$order.out" || { echo "select.sh: the answers differ" >&2; exit 1; }
+    for yardstick in plain fast; do
+        cmp "$work/ours.$order.out" "$work/$yardstick.$order.out" || { echo "select.sh: the answers differ" >&2; exit 1; }
+    done
     echo "$order: $rows rows, $input bytes, best of $runs"
     for name in "${programs[@]}"; do
-        awk -v name="$name" -v s="$(best "$name" "$order" 1)" -v base="$(best plain "$order" 1)" \
+        awk -v name="$name" -v s="$(best "$name" "$order" 1)" -v base="$(best plain "$order" 1)" -v limit="$(best fast "$order" 1)" \
             -v kb="$(best "$name" "$order" 2)" -v input="$input" 'BEGIN {
-                printf "  %-7s %6.2f s  %5.2f x plain Rust  %5.1f x the input in memory\n", name, s, s / base, kb * 1024 / input
+                printf "  %-7s %6.2f s  %5.2f x plain Rust  %5.2f x fast Rust  %5.1f x the input in memory\n", name, s, s / base, s / limit, kb * 1024 / input
             }'
     done
 done
