@@ -1,5 +1,5 @@
 // Entries and their payloads.
-ghost use Rattle.std.specs.Prelude.{◌≡◌, ◌↔◌, ◌++◌, ◌-◌, ◌^◌, List, ℕ, IfOk, Some, length, min};
+ghost use Rattle.std.specs.Prelude.{◌≡◌, ◌↔◌, ◌++◌, ◌-◌, ◌^◌, List, ℕ, IfOk, IfSome, Some, length, min};
 ghost use Rattle.entry_codec.specs.declared.entry.Entry.{Entry as Told};
 ghost use Rattle.entry_codec.specs.Payloads.{payload};
 ghost use Rattle.entry_codec.specs.Spellable.{FitsEntry, IsPrintable};
@@ -38,7 +38,8 @@ fn read_whole<T: Spelled>(alloc: Global, bytes: &[u8]) -> Result<Option<T>, NoMe
 /// # Errors
 /// `NoMemory`.
 pub fn read_entry(alloc: Global, bytes: &[u8]) -> Result<Option<Entry>, NoMemory>
-    ensures { IfOk result (λ read. (e : Told) → (read ≡ Some e) ↔ (FitsEntry e × (bytes.now ≡ payload e))) }
+    ensures entry { IfOk result (λ read. (e : Told) → (read ≡ Some e) ↔ (FitsEntry e × (bytes.now ≡ payload e))) }
+    ensures printable { IfOk result (λ read. IfSome read IsPrintable) }
 {
     let read = read_whole::<Entry>(alloc, bytes)?;
     Ok(read)
