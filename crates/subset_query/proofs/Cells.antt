@@ -19,7 +19,7 @@ use Rattle.subset_query.specs.Forms.{in_set, HasTwo, IsMany, IsManyOf}
 use Rattle.cite_schema.proofs.Rising.{and_first, and_second}
 use Rattle.subset_query.proofs.Sets.{IsRow, Within, cons_row}
 
-number_mag : (z : ℤ) → is_number z ≡ true → mag z < 2 ^ 63
+pub number_mag : (z : ℤ) → is_number z ≡ true → mag z < 2 ^ 63
 number_mag (pos n) h = grind (arith, nat_tests, ints)
 number_mag (negsuc n) h = grind (arith, nat_tests, ints)
 

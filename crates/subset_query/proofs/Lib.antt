@@ -16,6 +16,7 @@ pub mod NeededOrders
 pub mod Orders
 pub mod OwnKeys
 pub mod PlanLaws
+pub mod Prints
 pub mod Sample
 pub mod Sets
 pub mod Settled

@@ -22,7 +22,7 @@ module _ {P : Type 0} (valid : P → Type 0) (cmp : P → P → Ordering) (line 
   one_span s Greater h low high e = cc
 
   -- nothing else does
-  back : (spans : List (Span P)) → is_whole cmp bottom spans ≡ true → spans ≡ lone valid cmp line bottom None
+  pub back : (spans : List (Span P)) → is_whole cmp bottom spans ≡ true → spans ≡ lone valid cmp line bottom None
   back [] e = cc
   back (s ∷ []) e = ap (λ t. t ∷ []) (one_span s (cmp s.low bottom) s.high refl refl e)
   back (s ∷ t ∷ ts) e = cc

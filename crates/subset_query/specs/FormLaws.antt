@@ -1,16 +1,20 @@
 -- The laws of settled forms.
-use Rattle.std.specs.Prelude.{◌≡◌, ◌↔◌, Bool, IsTrue, List, None}
+use Rattle.std.specs.Prelude.{◌≡◌, ◌↔◌, ◌&&◌, Bool, true, IsTrue, List, None}
 use Rattle.std.specs.List.{list_all}
 use Rattle.cite_schema.specs.declared.value.Value.{Value}
 use Rattle.cite_schema.specs.declared.schema.Column as schema_column
 use Rattle.cite_schema.specs.declared.query.Query.{Query}
-use Rattle.cite_schema.specs.Values.{kind_of, is_value_of}
+use Rattle.cite_schema.specs.declared.item.Shown.{Shown}
+use Rattle.cite_schema.specs.declared.item.Shown.TheVariants.{Column, Constant}
+use Rattle.cite_schema.specs.Values.{kind_of, is_text, is_value_of}
 use Rattle.cite_schema.specs.Headings.{is_heading}
 use Rattle.cite_schema.specs.Answers.{Alike}
 use Rattle.cite_schema.specs.Queries.{asked}
 use Rattle.subset_query.specs.declared.form.Normal.{Normal}
+use Rattle.subset_query.specs.declared.form.Normal.TheVariants as forms
 use Rattle.subset_query.specs.Checks.{all_pass, query_fault}
 use Rattle.subset_query.specs.Forms.{formed, IsSettled}
+use Rattle.subset_query.specs.Printed.{printed_form}
 
 -- a value that a column of its kind may hold
 abbrev pub is_cell : Value → Bool
@@ -38,3 +42,18 @@ SettledFormsAreCanonical = (columns : List schema_column.Column) (a b : Normal) 
 abbrev pub QueriesHaveOneForm : Type 0
 QueriesHaveOneForm = (columns : List schema_column.Column) (q r : Query) (a b : Normal) → IsSettled columns a → IsSettled columns b
     → Alike columns (asked columns q) (formed a) → Alike columns (asked columns r) (formed b) → ((a ≡ b) ↔ Alike columns (asked columns q) (asked columns r))
+
+-- a constant that is a list of bytes, or a column
+abbrev pub shows_bytes : Shown → Bool
+shows_bytes (Column i) = true
+shows_bytes (Constant bs) = is_text bs
+
+-- the labels and the constants of the form are lists of bytes
+abbrev pub has_bytes : Normal → Bool
+has_bytes (forms.Nothing labels) = list_all is_text labels
+has_bytes (forms.Some sets items order) = list_all (λ i. is_text i.label && shows_bytes i.what) items
+
+-- settled forms of a schema whose labels and constants are bytes have one print exactly where they are equal
+abbrev pub PrintsTellFormsApart : Type 0
+PrintsTellFormsApart = (columns : List schema_column.Column) (a b : Normal) → IsTrue (is_heading columns) → IsSettled columns a → IsSettled columns b → IsTrue (has_bytes a) → IsTrue (has_bytes b)
+    → ((printed_form a ≡ printed_form b) ↔ (a ≡ b))

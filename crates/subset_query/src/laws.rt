@@ -1,5 +1,5 @@
 // Laws of normal forms.
-ghost use Rattle.subset_query.specs.FormLaws.{SettledFormsAreCanonical, QueriesHaveAForm, QueriesHaveOneForm};
+ghost use Rattle.subset_query.specs.FormLaws.{PrintsTellFormsApart, QueriesHaveAForm, QueriesHaveOneForm, SettledFormsAreCanonical};
 
 /// Settled forms of a schema are equal exactly where they give the same bytes on every table.
 pub fn settled_forms_are_canonical()
@@ -15,4 +15,10 @@ pub fn queries_have_a_form()
 /// every table. So the form names what is asked for, however it was written.
 pub fn queries_have_one_form()
     ensures { QueriesHaveOneForm }
+{}
+
+/// Settled forms of a schema whose labels and constants are bytes print the same exactly where they are equal. So a print,
+/// beside its schema, stands for its form.
+pub fn prints_tell_forms_apart()
+    ensures { PrintsTellFormsApart }
 {}

@@ -30,7 +30,10 @@ mod settle;
 
 pub use checks::{QueryFault, check};
 pub use form::{ColumnSet, Normal};
-pub use laws::{queries_have_a_form, queries_have_one_form, settled_forms_are_canonical};
+pub use laws::{
+    prints_tell_forms_apart, queries_have_a_form, queries_have_one_form,
+    settled_forms_are_canonical,
+};
 pub use normal_form::normal;
 pub use settle::settle_form;
 

@@ -1,7 +1,8 @@
 // Queries that are written differently and ask the same, and queries that only look alike.
 use crate::notation::{Misread, query, schema};
 use crate::{
-    Normal, check, normal, queries_have_a_form, queries_have_one_form, settled_forms_are_canonical,
+    Normal, check, normal, prints_tell_forms_apart, queries_have_a_form, queries_have_one_form,
+    settled_forms_are_canonical,
 };
 use cite_schema::{ByteText, Query, Schema};
 use std::alloc::Global;
@@ -368,4 +369,5 @@ fn the_laws_hold() {
     settled_forms_are_canonical();
     queries_have_a_form();
     queries_have_one_form();
+    prints_tell_forms_apart();
 }
