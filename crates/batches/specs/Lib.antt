@@ -1,0 +1,3 @@
+pub mod Curators
+pub mod Bodies
+pub mod Parts
