@@ -32,7 +32,8 @@ pub fn read_cite(alloc: Global, body: &[u8]) -> Result<CiteAsk, JsonFault>
     read_request(alloc, &value)
 }
 
-fn read_json(alloc: Global, body: &[u8]) -> Result<Option<Json>, NoMemory>
+/// The JSON value of a body; `Ok(None)` exactly where it is read as none.
+pub(crate) fn read_json(alloc: Global, body: &[u8]) -> Result<Option<Json>, NoMemory>
     ensures { IfOk result (λ read. option_map view read ≡ json_of body.now) }
 {
     match Json::from_slice(alloc, body) {
@@ -80,13 +81,13 @@ fn read_meta(alloc: Global, value: &Json) -> Result<Option<Meta>, NoMemory>
         return Ok(None);
     };
     let title = byte_text(alloc, name)?;
-    let Some(description) = read_description(alloc, value.get("description"))? else {
+    let Some(description) = described(value.get("description")) else {
         return Ok(None);
     };
     Ok(Some(Meta {
         creators,
         title,
-        description,
+        description: byte_text(alloc, description)?,
     }))
 }
 
@@ -106,14 +107,12 @@ fn read_creators(alloc: Global, value: &Json) -> Result<Option<List<ByteText>>, 
     Ok(Some(creators))
 }
 
-fn read_description(alloc: Global, content: Option<&Json>) -> Result<Option<ByteText>, NoMemory>
-    ensures { IfOk result (λ read. read ≡ description_of (option_map (λ v. view v.now) content.entry)) }
+// What `description` says. It takes no memory.
+fn described(content: Option<&Json>) -> Option<&str>
+    ensures { option_map (λ s. s.now) result ≡ description_of (option_map (λ v. view v.now) content.entry) }
 {
-    let Some(value) = content else {
-        return Ok(Some(List::new(alloc)));
-    };
-    let Some(text) = value.as_str() else {
-        return Ok(None);
-    };
-    Ok(Some(byte_text(alloc, text)?))
+    match content {
+        Some(value) => value.as_str(),
+        None => Some(""),
+    }
 }
