@@ -35,7 +35,7 @@ fn three_spellings_are_read_in_any_case(rt: HostRuntime) -> Result<(), Fail> {
     let spellings: [(&[u8], Named); 6] = [
         (b"10.70001/C12", Named::Subset(12)),
         (b"doi:10.70001/c12", Named::Subset(12)),
-        (b"DOI:10.70001/D1", Named::Superset),
+        (b"DOI:10.70001/d1", Named::Superset),
         (
             b"https://doi.org/10.70001/c4294967295",
             Named::Subset(u32::MAX),
