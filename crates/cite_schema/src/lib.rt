@@ -34,6 +34,7 @@ mod query;
 mod row;
 mod same;
 mod schema;
+mod shared;
 mod step;
 #[cfg(test)]
 mod tests;
@@ -58,6 +59,7 @@ pub use query::{Along, Asked, CiteAsk, Meta, OnColumn, Query};
 pub use row::Row;
 pub use same::{Same, same_slice};
 pub use schema::{Column, Schema, SchemaFault, has_name_form};
+pub use shared::Shared;
 pub use step::Step;
 pub use text::known_bytes;
 pub use value::{Kind, Value, compare, print_value};

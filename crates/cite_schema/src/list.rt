@@ -65,6 +65,11 @@ impl<T> List<T> {
         self.items.as_slice()
     }
 
+    // Where the list takes its memory from.
+    pub(crate) fn allocator(&self) -> Global {
+        *self.items.allocator()
+    }
+
     /// How many elements there are.
     pub fn len(&self) -> usize
         ensures { result ≡ length self.now }

@@ -1,7 +1,7 @@
 // Each public call with ample memory, and the ends of what is read.
 use crate::{
     Boxed, ByteText, Column, Item, KeySet, Kind, List, NoMemory, Row, Same, Schema, SchemaFault,
-    Shown, Value, compare, known_bytes, print_value, read_int, same_slice,
+    Shared, Shown, Value, compare, known_bytes, print_value, read_int, same_slice,
 };
 use std::alloc::{AllocError, Global};
 use std::cmp::Ordering;
@@ -196,6 +196,38 @@ fn schemas_are_made_or_refused(rt: HostRuntime) -> Result<(), Fail> {
     Ok(())
 }
 
+// The least number, and a text.
+fn cells(alloc: Global, note: &[u8]) -> Result<List<Value>, AllocError> {
+    let mut cells = List::with_capacity(alloc, 2)?;
+    cells.push(Value::Int(i64::MIN))?;
+    cells.push(text(alloc, note)?)?;
+    Ok(cells)
+}
+
+#[test]
+fn copies_of_a_row_have_its_values(rt: HostRuntime) -> Result<(), Fail> {
+    let values = cells(rt.alloc(), b"quay")?;
+    let row = Row::make(cells(rt.alloc(), b"quay")?);
+    let copied = row.copy()?;
+    let again = copied.copy()?;
+    drop(copied);
+    assert!(rt; is_same(row.values(), &values));
+    assert!(rt; is_same(again.values(), &values));
+    assert!(rt; is_same(&again.to_values()?, &values));
+    assert!(rt; is_same(row.into_shared()?.get(), &values));
+    assert!(rt; is_same(again.into_shared()?.get(), &values));
+    Ok(())
+}
+
+#[test]
+fn a_shared_value_stays_for_its_other_owners(rt: HostRuntime) -> Result<(), Fail> {
+    let shared = Shared::make(rt.alloc(), 7)?;
+    let other = shared.share()?;
+    drop(shared);
+    assert_eq!(rt; *other.get(), 7);
+    Ok(())
+}
+
 #[test]
 fn rows_fit_by_width_kind_and_length(rt: HostRuntime) -> Result<(), Fail> {
     let alloc = rt.alloc();
@@ -206,22 +238,12 @@ fn rows_fit_by_width_kind_and_length(rt: HostRuntime) -> Result<(), Fail> {
         kind: Kind::Text,
     })?;
     let schema = Schema::make(1, both)?;
-    let mut cells = List::with_capacity(alloc, 2)?;
-    cells.push(Value::Int(i64::MIN))?;
     assert!(rt; !schema.fits(&Row::make(List::from_vec(Vec::new(alloc)))));
-    let mut short = Row::make(cells).into_values();
-    short.push(text(alloc, &[b'q'; 65_535])?)?;
-    let row = Row::make(short);
-    assert!(rt; schema.fits(&row));
-    let copied = row.copy()?;
-    assert!(rt; is_same(row.values(), copied.values()));
-    let mut wide = copied.into_values();
+    assert!(rt; schema.fits(&Row::make(cells(alloc, &[b'q'; 65_535])?)));
+    assert!(rt; !schema.fits(&Row::make(cells(alloc, &[b'q'; 65_536])?)));
+    let mut wide = cells(alloc, b"q")?;
     wide.push(Value::Int(0))?;
     assert!(rt; !schema.fits(&Row::make(wide)));
-    let mut long = List::new(alloc);
-    long.push(Value::Int(1))?;
-    long.push(text(alloc, &[b'q'; 65_536])?)?;
-    assert!(rt; !schema.fits(&Row::make(long)));
     let mut turned = List::new(alloc);
     turned.push(text(alloc, b"1")?)?;
     turned.push(Value::Int(1))?;

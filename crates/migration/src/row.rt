@@ -28,7 +28,7 @@ pub fn carry_row(
     ensures { IfOk result (λ carried. carried ≡ carry_row schema.now.columns steps.now row.now) }
 {
     let columns = copied_columns(alloc, schema.columns().as_slice())?;
-    let values = row.copy()?.into_values();
+    let values = row.to_values()?;
     match carried_values(alloc, columns, steps.as_slice(), values)? {
         Some(values) => Ok(Some(Row::make(values))),
         None => Ok(None),

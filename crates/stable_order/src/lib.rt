@@ -13,6 +13,7 @@ mod row;
 pub use arrangement::arrange;
 pub use keyed::Keyed;
 pub use laws::{one_arrangement, rows_stand_as_in_answers};
+pub use row::compare_cells;
 
 #[cfg(test)]
 mod tests;

@@ -21,7 +21,9 @@ impl Keyed for Row {
     ghost comparison = { column_total };
 }
 
-fn compare_cells(a: Option<&Value>, b: Option<&Value>) -> Ordering
+/// Which of two cells at one place comes first: numbers before texts, and a missing cell before any other. It takes no
+/// memory.
+pub fn compare_cells(a: Option<&Value>, b: Option<&Value>) -> Ordering
     ensures { result ≡ cell_cmp (option_copied a.entry) (option_copied b.entry) }
 {
     match (a, b) {

@@ -45,6 +45,17 @@ loop-fields-preserved-in_ok-push c =
           (c.in_ok-push.ensures.ok ∙ ap (λ l. c.loop-fields.picked ++ l) (row_kept (formed c.args.form.now).keeps c.in_ok-row.row (sym c.if-picks.ensures)));
     }
 
+pub loop-fields-preserved-else-picks : goal.loop-fields-preserved-else-picks
+loop-fields-preserved-else-picks c =
+    let line = rw c.if-branch.true at c.in_ok-read_next.ensures.found in
+    let so = subst (λ (left : List (List (List ℕ))). ReadSoFar c.args.columns.now (formed c.args.form.now).keeps (left_of c.args.reader.now) left c.loop-fields.keys c.loop-fields.picked c.loop-fields.line) line c.loop-fields.invariant.so_far in
+    record {
+      reading = c.in_ok-read_next.ensures.reading (ap Ok c.if-branch.true);
+      so_far = read_more c.args.columns.now (formed c.args.form.now).keeps (left_of c.args.reader.now) (left_of c.read_next.new.reader) c.loop-fields.keys c.loop-fields.picked c.loop-fields.line (fields_of c.read_next.new.line) so c.insert.new.self c.loop-fields.picked c.in_ok-row.row c.key_of.result.now c.in_ok-row.ensures.ok c.key_of.ensures
+          (is_fresh (holds c.loop-fields.keys c.key_of.result.now) (sym c.in_ok-insert.ensures.found ∙ c.if-not-branch.false)) c.in_ok-insert.ensures.added
+          (sym (append-nil c.loop-fields.picked) ∙ ap (λ l. c.loop-fields.picked ++ l) (row_left (formed c.args.form.now).keeps c.in_ok-row.row (sym c.if-picks.ensures)));
+    }
+
 pub loop-fields-preserved : goal.loop-fields-preserved
 loop-fields-preserved c =
     let line = rw c.if-branch.true at c.in_ok-read_next.ensures.found in
