@@ -1,0 +1,11 @@
+pub mod AnyOrder
+pub mod Around
+pub mod Editing
+pub mod Levels
+pub mod Nodes
+pub mod Singles
+pub mod Order
+pub mod Probing
+pub mod RisingEdits
+pub mod Paging
+pub mod Walking

@@ -1,0 +1,9 @@
+pub mod Edits
+pub mod Levels
+pub mod Nodes
+pub mod Singles
+pub mod Probes
+pub mod Search
+pub mod Sequences
+pub mod Pages
+pub mod Walks
