@@ -5,4 +5,5 @@ pub mod Stepping
 pub mod Sums
 pub mod Tabled
 pub mod Tables
+pub mod Turning
 pub mod Versions
