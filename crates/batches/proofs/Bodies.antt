@@ -16,7 +16,8 @@ use Rattle.batches.specs.declared.fault.BatchFault.{BatchFault}
 use Rattle.batches.specs.declared.fault.BatchFault.TheVariants.{BadHeader, EmptyBatch, TooManyLines, BadWidth, BadOp, BadCell, KeyTwice, NoMemory}
 use Rattle.batches.specs.declared.reading.Collected.{Collected}
 use Rattle.batches.specs.Bodies.{is_word, is_header, row_line, first_cell, filled_behind, key_line, line_by, line_in, names_key_of, lines_from, lines_of_records, lines_of}
-use Rattle.batches.specs.Parts.{AreLines, key_twice_in, AreCollected, IsCollected, IsRefused, HaveKeys, HeadIs, outcome, due_by, due_of}
+use Rattle.batches.specs.Laws.{AreLines}
+use Rattle.batches.specs.Parts.{key_twice_in, AreCollected, IsCollected, IsRefused, HaveKeys, HeadIs, outcome, due_by, due_of}
 use Rattle.batches.proofs.Collecting.{lines_count, ReadSoFar}
 
 -- Each line names a key.

@@ -7,7 +7,8 @@ use Rattle.cite_schema.specs.declared.line.Line.{Line}
 use Rattle.batches.specs.declared.fault.BatchFault.{BatchFault}
 use Rattle.batches.specs.declared.reading.Collected.{Collected}
 use Rattle.batches.specs.Bodies.{line_in}
-use Rattle.batches.specs.Parts.{AreLines, added, read_after, AreCollected, IsCollected}
+use Rattle.batches.specs.Laws.{AreLines}
+use Rattle.batches.specs.Parts.{added, read_after, AreCollected, IsCollected}
 
 pub lines_count : (columns : List Column) (n : ℕ) (records : List (List (List ℕ))) (lines : List Line) → AreLines columns n records lines → length lines ≡ length records
 lines_count columns n [] [] h = refl

@@ -1,3 +1,4 @@
 pub mod Curators
 pub mod Bodies
+pub mod Laws
 pub mod Parts

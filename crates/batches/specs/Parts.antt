@@ -1,5 +1,5 @@
 -- What the parts of `read_batch` hand on to each other. Clauses of private functions alone cite it.
-use Rattle.std.specs.Prelude.{◌≡◌, ◌≢◌, ◌<◌, ◌≤◌, ◌⊎◌, ℕ, ◌+◌, Bool, true, false, List, [], ◌∷◌, ◌++◌, Option, Some, None, option_map, Result, Ok, Err, length, if◌then◌else◌, ⊤}
+use Rattle.std.specs.Prelude.{◌≡◌, ◌≢◌, ◌<◌, ◌≤◌, ◌⊎◌, ℕ, ◌+◌, Bool, true, false, List, [], ◌∷◌, ◌++◌, Option, Some, None, option_map, Result, Ok, Err, length, if◌then◌else◌}
 use Rattle.std.specs.List.{AllByRecursion}
 use Rattle.cite_schema.specs.TableTexts.{bad_cell_in, row_of}
 use Rattle.cite_schema.specs.Tests.{unless, wanted}
@@ -11,6 +11,7 @@ use Rattle.batches.specs.declared.fault.BatchFault.{BatchFault}
 use Rattle.batches.specs.declared.fault.BatchFault.TheVariants.{BadWidth, BadCell, BadHeader, EmptyBatch, TooManyLines, KeyTwice, NoMemory}
 use Rattle.batches.specs.declared.reading.Collected.{Collected}
 use Rattle.batches.specs.Bodies.{is_header, line_in, names_key_of, first_cell, filled_behind, lines_of_records}
+use Rattle.batches.specs.Laws.{AreLines}
 
 -- the row of the fields behind the operation, or the first column whose field says no value there
 abbrev pub row_in : List Column → ℕ → List (List ℕ) → Result (List Value) BatchFault
@@ -29,13 +30,6 @@ added read (Err fault) = record read { fault = Some fault }
 abbrev pub read_after : List Column → ℕ → List (List ℕ) → Option BatchFault → Collected → Collected
 read_after columns n fields None read = added read (line_in columns n fields)
 read_after columns n fields (Some fault) read = read
-
--- each record, from line n on, spells the line at its place
-abbrev pub AreLines : List Column → ℕ → List (List (List ℕ)) → List Line → Type 0
-AreLines columns n [] [] = ⊤
-AreLines columns n [] (l ∷ ls) = ⊥
-AreLines columns n (r ∷ rs) [] = ⊥
-AreLines columns n (r ∷ rs) (l ∷ ls) = (line_in columns n r ≡ Ok l) × AreLines columns (n + 1) rs ls
 
 -- records spell these lines up to the first that spells none, whose fault this is
 pub record IsFault (columns : List Column) (records : List (List (List ℕ))) (lines : List Line) (fault : BatchFault) : Type 0 where
