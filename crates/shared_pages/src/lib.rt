@@ -15,6 +15,8 @@ mod node;
 mod page;
 mod search;
 mod sequence;
+#[cfg(test)]
+mod tests;
 mod walk;
 
 pub use edit::{Edit, are_rising};
