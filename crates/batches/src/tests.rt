@@ -30,15 +30,24 @@ fn lines_in(alloc: Global, body: &[u8]) -> Result<usize, BatchFault> {
     }
 }
 
-// A body with so many lines, each of which puts a key of its own, but for the last, which has none.
-fn long_body(alloc: Global, lines: u32) -> Result<Vec<u8>, AllocError> {
+// A body with so many lines, each of which puts a key of its own, but for the last, which is this.
+fn long_body(alloc: Global, lines: u32, last: &[u8]) -> Result<Vec<u8>, AllocError> {
     let mut body = Vec::from_slice(alloc, b"op,sid,name\n")?;
     for i in 1..lines {
         body.extend_from_slice(b"+,")?;
         body.extend_from_slice(i.to_string(alloc)?.as_bytes())?;
         body.extend_from_slice(b",x\n")?;
     }
-    body.extend_from_slice(b"+,none,x\n")?;
+    body.extend_from_slice(last)?;
+    Ok(body)
+}
+
+// A body with one line, whose text has so many bytes.
+fn wide_body(alloc: Global, bytes: u32) -> Result<Vec<u8>, AllocError> {
+    let mut body = Vec::from_slice(alloc, b"op,sid,name\n+,1,")?;
+    for _ in 0..bytes {
+        body.push(b'x')?;
+    }
     Ok(body)
 }
 
@@ -131,17 +140,47 @@ fn lines_are_refused(rt: HostRuntime) -> Result<(), Fail> {
 #[test]
 fn the_number_of_lines_comes_before_a_line(rt: HostRuntime) -> Result<(), Fail> {
     let alloc = rt.alloc();
-    let most = long_body(alloc, 20_000)?;
+    let most = long_body(alloc, 20_000, b"+,none,x")?;
     let last = BatchFault::BadCell {
         line: 20_000,
         column: 0,
     };
     assert_eq!(rt; lines_in(alloc, most.as_slice()), Err(last));
-    let more = long_body(alloc, 20_001)?;
+    let more = long_body(alloc, 20_001, b"+,none,x")?;
     assert_eq!(rt;
         lines_in(alloc, more.as_slice()),
         Err(BatchFault::TooManyLines)
     );
+    Ok(())
+}
+
+#[test]
+fn a_key_comes_again_in_the_last_line(rt: HostRuntime) -> Result<(), Fail> {
+    let alloc = rt.alloc();
+    let body = long_body(alloc, 20_000, b"-,+1,")?;
+    assert_eq!(rt;
+        lines_in(alloc, body.as_slice()),
+        Err(BatchFault::KeyTwice(20_000))
+    );
+    Ok(())
+}
+
+#[test]
+fn the_most_lines_are_read(rt: HostRuntime) -> Result<(), Fail> {
+    let alloc = rt.alloc();
+    let body = long_body(alloc, 20_000, b"-,20000,")?;
+    assert_eq!(rt; lines_in(alloc, body.as_slice()), Ok(20_000));
+    Ok(())
+}
+
+#[test]
+fn texts_have_at_most_65535_bytes(rt: HostRuntime) -> Result<(), Fail> {
+    let alloc = rt.alloc();
+    let longest = wide_body(alloc, 65_535)?;
+    assert_eq!(rt; lines_in(alloc, longest.as_slice()), Ok(1));
+    let longer = wide_body(alloc, 65_536)?;
+    let fault = BatchFault::BadCell { line: 1, column: 1 };
+    assert_eq!(rt; lines_in(alloc, longer.as_slice()), Err(fault));
     Ok(())
 }
 
