@@ -5,3 +5,4 @@ pub mod Histories
 pub mod Nexts
 pub mod Keeping
 pub mod Parts
+pub mod Turns

@@ -12,6 +12,7 @@
 mod edits;
 mod fault;
 mod laws;
+mod mapping;
 mod order;
 mod rows;
 mod weight;

@@ -1,14 +1,18 @@
 // The rows of all versions.
-ghost use Rattle.std.specs.Prelude.{◌≡◌, ◌<◌, ◌≤◌, ◌+◌, ◌-◌, ◌^◌, ◌&&◌, nat_le, [], ◌++◌, length, IfOk, IfErr, IsTrue};
+ghost use Rattle.std.specs.Prelude.{Ok, Some, List as Listed, slice_get, ◌≡◌, ◌<◌, ◌≤◌, ◌+◌, ◌-◌, ◌^◌, ◌&&◌, nat_le, [], ◌++◌, length, IfOk, IfErr, IsTrue};
+ghost use Rattle.std.specs.Fn.{FnReturnsAt};
+ghost use Rattle.std.specs.List.{AllZip, Contains};
 ghost use Rattle.cite_schema.specs.Lines.{brought};
 ghost use Rattle.cite_schema.specs.Tables.{is_keyed};
+ghost use Rattle.cite_schema.specs.declared.value.Value.{Value as Cell};
 ghost use Rattle.versioned_rows.specs.ChangeLaws.{NameOwnKeys, HaveKeys};
 ghost use Rattle.versioned_rows.specs.Weights.{rows_weight};
 ghost use Rattle.versioned_rows.specs.Histories.{rows_of, as_of, last_table, is_in_version};
-ghost use Rattle.versioned_rows.specs.Nexts.{IsNextByLines, TellsLine};
+ghost use Rattle.versioned_rows.specs.Nexts.{IsNextByLines, TellsLine, Turns, IsNextByCalls, TellsFirstLost};
 
 use crate::edits::{counted, edits_for, weighed};
-use crate::fault::ApplyFault;
+use crate::fault::{ApplyFault, MapFault};
+use crate::mapping::turn_all;
 use cite_schema::{Line, List, NoMemory, Row, Shared, Value};
 use shared_pages::Sequence;
 use std::alloc::Global;
@@ -105,6 +109,34 @@ impl Rows {
             }
         }
         Ok(table)
+    }
+
+    /// The rows of the next version, whose table is the last one: each kept row is replaced by what the function makes of
+    /// it, so each older table is replaced row by row too. Where the function makes nothing of a kept row, the fault names
+    /// the lowest version whose table has such a row, and the lowest key of one in it. The function keeps keys, and what
+    /// it makes weighs less than 2^64 in all.
+    ///
+    /// It is one pass over the kept rows, with one call for each, and makes every page anew.
+    pub fn map_rows<F: Fn(&Row) -> Result<Option<Row>, NoMemory>>(
+        &self,
+        alloc: Global,
+        f: F,
+    ) -> Result<Rows, MapFault>
+        requires callable { (x : _) → Contains (rows_of self.now) x.now → F.pre f x }
+        requires keeps { (r t : Listed Cell) → Contains (rows_of self.now) r → FnReturnsAt F.Fn f r (Ok (Some t)) → slice_get t 0 ≡ slice_get r 0 }
+        requires weight { (rows : Listed (Listed Cell)) → AllZip (Turns (FnReturnsAt F.Fn f)) (rows_of self.now) rows → rows_weight rows < 2 ^ 64 }
+        requires last { self.now.last < 2 ^ 32 - 1 }
+        ensures next { IfOk result (λ new. IsNextByCalls (FnReturnsAt F.Fn f) self.now new) }
+        ensures fault { IfErr result (λ fault. TellsFirstLost (FnReturnsAt F.Fn f) self.now fault) }
+    {
+        let turned = turn_all(alloc, &self.kept, f)?;
+        let kept = Sequence::of_items(alloc, turned.rows)?;
+        Ok(Rows {
+            last: self.last + 1,
+            kept,
+            weight: turned.weight,
+            alive: self.alive,
+        })
     }
 
     /// The number of the last version. It takes no memory.
