@@ -31,3 +31,6 @@ pub use laws::{
 };
 pub use row::carry_row;
 pub use schema::carry_schema;
+
+#[cfg(test)]
+mod tests;
