@@ -2,6 +2,7 @@ pub mod Applying
 pub mod Lines
 pub mod Looking
 pub mod Stepping
+pub mod Ruling
 pub mod Sums
 pub mod Tabled
 pub mod Tables

@@ -68,3 +68,7 @@ pub record IsFirstLost (returns : List Value → Result (Option (List Value)) No
 abbrev pub TellsFirstLost : (List Value → Result (Option (List Value)) NoMemory → Type 0) → RowHistory → MapFault → Type 0
 TellsFirstLost returns old maps.NoMemory = ⊤
 TellsFirstLost returns old (maps.Overflow version key) = IsFirstLost returns old version key
+
+-- where a call finds memory, it gives what the rule gives
+abbrev pub FollowsRule : (List Value → Option (List Value)) → (List Value → Result (Option (List Value)) NoMemory → Type 0) → Type 0
+FollowsRule rule returns = (r : List Value) (o : Option (List Value)) → returns r (Ok o) → o ≡ rule r

@@ -1,5 +1,5 @@
 // The rows of all versions.
-ghost use Rattle.std.specs.Prelude.{Ok, Some, List as Listed, slice_get, ◌≡◌, ◌<◌, ◌≤◌, ◌+◌, ◌-◌, ◌^◌, ◌&&◌, nat_le, [], ◌++◌, length, IfOk, IfErr, IsTrue};
+ghost use Rattle.std.specs.Prelude.{Ok, Some, List as Listed, Option as Maybe, slice_get, ◌≡◌, ◌<◌, ◌≤◌, ◌+◌, ◌-◌, ◌^◌, ◌&&◌, nat_le, [], ◌++◌, length, IfOk, IfErr, IsTrue};
 ghost use Rattle.std.specs.Fn.{FnReturnsAt};
 ghost use Rattle.std.specs.List.{AllZip, Contains};
 ghost use Rattle.cite_schema.specs.Lines.{brought};
@@ -8,7 +8,7 @@ ghost use Rattle.cite_schema.specs.declared.value.Value.{Value as Cell};
 ghost use Rattle.versioned_rows.specs.ChangeLaws.{NameOwnKeys, HaveKeys};
 ghost use Rattle.versioned_rows.specs.Weights.{rows_weight};
 ghost use Rattle.versioned_rows.specs.Histories.{rows_of, as_of, last_table, is_in_version};
-ghost use Rattle.versioned_rows.specs.Nexts.{IsNextByLines, TellsLine, Turns, IsNextByCalls, TellsFirstLost};
+ghost use Rattle.versioned_rows.specs.Nexts.{IsNextByLines, TellsLine, Turns, IsNextByCalls, TellsFirstLost, FollowsRule, IsNextByRule, TellsLost};
 
 use crate::edits::{counted, edits_for, weighed};
 use crate::fault::{ApplyFault, MapFault};
@@ -128,6 +128,8 @@ impl Rows {
         requires last { self.now.last < 2 ^ 32 - 1 }
         ensures next { IfOk result (λ new. IsNextByCalls (FnReturnsAt F.Fn f) self.now new) }
         ensures fault { IfErr result (λ fault. TellsFirstLost (FnReturnsAt F.Fn f) self.now fault) }
+        ensures next_by_rule { IfOk result (λ new. (rule : Listed Cell → Maybe (Listed Cell)) → FollowsRule rule (FnReturnsAt F.Fn f) → IsNextByRule rule self.now new) }
+        ensures fault_by_rule { IfErr result (λ fault. (rule : Listed Cell → Maybe (Listed Cell)) → FollowsRule rule (FnReturnsAt F.Fn f) → TellsLost rule self.now fault) }
     {
         let turned = turn_all(alloc, &self.kept, f)?;
         let kept = Sequence::of_items(alloc, turned.rows)?;
