@@ -8,10 +8,10 @@ use Rattle.std.specs.declared.cmp.Ordering.TheVariants.{Less, Equal, Greater}
 use Rattle.std.proofs.lemmas.List.Folds.{list_any-append}
 use Rattle.cite_schema.specs.declared.value.Value.{Value}
 use Rattle.cite_schema.specs.declared.line.Line.{Line}
-use Rattle.cite_schema.specs.declared.key_set.KeySet.{KeySet}
+use Rattle.csv_records.specs.declared.key_set.KeySet.{KeySet}
 use Rattle.cite_schema.specs.Values.{value_cmp}
 use Rattle.cite_schema.specs.Tables.{cell_cmp}
-use Rattle.cite_schema.specs.Keys.{holds}
+use Rattle.csv_records.specs.Keys.{holds}
 use Rattle.cite_schema.specs.Lines.{key_in}
 use Rattle.cite_schema.proofs.Orders.{cell_total}
 use Rattle.batches.specs.Bodies.{names_key_of}

@@ -2,7 +2,8 @@
 ghost use Rattle.std.specs.Prelude.{◌≡◌, [], IfOk};
 ghost use Rattle.batches.specs.Parts.{key_twice_in, HaveKeys};
 
-use cite_schema::{KeySet, Line, NoMemory, Value};
+use cite_schema::{Line, NoMemory, Value};
+use csv_records::KeySet;
 use std::alloc::Global;
 
 /// The number of the first line whose key a line before it names. A search of an ordered tree for each line: n log n in

@@ -6,12 +6,13 @@ use Rattle.std.proofs.lemmas.List.{length-map}
 use Rattle.std.proofs.lemmas.List.Elements.{filter-append}
 use Rattle.cite_schema.specs.declared.value.Value.{Value}
 use Rattle.cite_schema.specs.declared.schema.Column.{Column}
-use Rattle.cite_schema.specs.declared.key_set.KeySet.{KeySet}
+use Rattle.csv_records.specs.declared.key_set.KeySet.{KeySet}
 use Rattle.cite_schema.specs.Values.{value_cmp}
 use Rattle.cite_schema.specs.Tables.{key_cmp, has_key}
-use Rattle.cite_schema.specs.Keys.{holds}
+use Rattle.csv_records.specs.Keys.{holds}
 use Rattle.cite_schema.specs.TableTexts.{all_some, row_of}
-use Rattle.cite_schema.proofs.Keys.{AreKeysOf, keys_more, key_found, apart_more, none_apart}
+use Rattle.csv_records.proofs.Keys.{AreKeysOf, keys_more, key_found}
+use Rattle.cite_schema.proofs.Keys.{apart_more, none_apart}
 use Rattle.cite_schema.proofs.Orders.{key_total}
 use Rattle.cite_schema.proofs.Rising.{Differ}
 use Rattle.cite_schema.proofs.TableTexts.{length-all_some, some_push}

@@ -7,9 +7,9 @@ ghost use Rattle.cite_cli.specs.Parts.{Tells, ArePicked};
 
 use crate::lines::read_row;
 use crate::refusal::{Fault, Refusal};
-use cite_schema::{Column, KeySet, List, Row, Value};
+use cite_schema::{Column, List, Row, Value};
 use csv::{ByteRecord, Reader};
-use csv_records::read_next;
+use csv_records::{KeySet, read_next};
 use std::alloc::Global;
 use subset_query::Normal;
 

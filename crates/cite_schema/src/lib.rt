@@ -9,7 +9,6 @@
 //! - `Headings`: the columns of a schema;
 //! - `Conditions`: what a condition says of a value;
 //! - `Tables`: the tables of a schema, in key order;
-//! - `Keys`: which keys a set of keys holds;
 //! - `Answers`: what a query asks of a table, the one answer, the bytes that it gives, and when two queries are alike;
 //! - `Layout`: the bytes of a result;
 //! - `TableTexts`: which table a header record and the lines under it spell;
@@ -23,7 +22,6 @@ mod boxed;
 mod condition;
 mod dataset;
 mod item;
-mod key_set;
 mod laws;
 mod line;
 mod list;
@@ -46,7 +44,6 @@ pub use boxed::Boxed;
 pub use condition::Cond;
 pub use dataset::{Dataset, Issue};
 pub use item::{Dir, Item, Shown};
-pub use key_set::KeySet;
 pub use laws::{
     a_table_text_spells_at_most_one_table, answers_exist_and_are_unique, schemas_are_well_named,
 };

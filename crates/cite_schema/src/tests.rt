@@ -1,7 +1,7 @@
 // Each public call with ample memory, and the ends of what is read.
 use crate::{
-    Boxed, ByteText, Column, Item, KeySet, Kind, List, NoMemory, Row, Same, Schema, SchemaFault,
-    Shared, Shown, Value, compare, known_bytes, print_value, read_int, same_slice,
+    Boxed, ByteText, Column, Item, Kind, List, NoMemory, Row, Same, Schema, SchemaFault, Shared,
+    Shown, Value, compare, known_bytes, print_value, read_int, same_slice,
 };
 use std::alloc::{AllocError, Global};
 use std::cmp::Ordering;
@@ -96,26 +96,6 @@ fn values_print(rt: HostRuntime) -> Result<(), Fail> {
     );
     assert_eq!(rt; Value::Int(3).kind(), Kind::Int);
     assert_eq!(rt; text(alloc, b"3")?.kind(), Kind::Text);
-    Ok(())
-}
-
-// A number and the text that it prints are two keys.
-#[test]
-fn a_key_that_comes_twice_is_found(rt: HostRuntime) -> Result<(), Fail> {
-    let alloc = rt.alloc();
-    let mut keys = KeySet::new(alloc);
-    let values = [
-        (Value::Int(3), true),
-        (text(alloc, b"3")?, true),
-        (Value::Int(-3), true),
-        (Value::Int(3), false),
-        (text(alloc, b"")?, true),
-        (text(alloc, b"3")?, false),
-    ];
-    for (key, new) in &values {
-        let found = keys.insert(key)?;
-        assert_eq!(rt; found, *new);
-    }
     Ok(())
 }
 

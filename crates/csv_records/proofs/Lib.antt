@@ -1,3 +1,4 @@
 pub mod Fields
+pub mod Keys
 pub mod ReaderSteps
 pub mod RecordSteps

@@ -1,6 +1,6 @@
 // Each public call with ample memory.
-use crate::{Cells, field, read_cells, read_column, read_next, read_schema, records_in};
-use cite_schema::{ByteText, Column, Kind, List, NoMemory, Row};
+use crate::{Cells, KeySet, field, read_cells, read_column, read_next, read_schema, records_in};
+use cite_schema::{ByteText, Column, Kind, List, NoMemory, Row, Value};
 use csv::ByteRecord;
 use std::alloc::{AllocError, Global};
 use std::test::Fail;
@@ -117,6 +117,30 @@ fn a_field_is_that_at_its_place(rt: HostRuntime) -> Result<(), Fail> {
     assert_eq!(rt; line.len(), 3);
     if line.len() == 3 {
         assert_eq!(rt; field(&line, 1), b"b".as_slice());
+    }
+    Ok(())
+}
+
+fn text_value(alloc: Global, bytes: &[u8]) -> Result<Value, AllocError> {
+    Ok(Value::Text(ByteText::from_slice(alloc, bytes)?))
+}
+
+// A number and the text that it prints are two keys.
+#[test]
+fn a_key_that_comes_twice_is_found(rt: HostRuntime) -> Result<(), Fail> {
+    let alloc = rt.alloc();
+    let mut keys = KeySet::new(alloc);
+    let values = [
+        (Value::Int(3), true),
+        (text_value(alloc, b"3")?, true),
+        (Value::Int(-3), true),
+        (Value::Int(3), false),
+        (text_value(alloc, b"")?, true),
+        (text_value(alloc, b"3")?, false),
+    ];
+    for (key, new) in &values {
+        let found = keys.insert(key)?;
+        assert_eq!(rt; found, *new);
     }
     Ok(())
 }

@@ -2,7 +2,7 @@ use Rattle.std.proofs.Common.{◌∙◌, sym, ap, subst, arith, List, ℕ, Ok, �
 use Rattle.csv.specs.Records.{fields_of}
 use Rattle.subset_query.specs.Forms.{formed}
 use Rattle.cite_schema.specs.declared.value.Value.{Value}
-use Rattle.cite_schema.specs.Keys.{holds}
+use Rattle.csv_records.specs.Keys.{holds}
 use Rattle.csv_records.specs.Records.{left_of}
 use Rattle.cite_cli.proofs.Collecting.{ReadSoFar, nothing_read, next_line, twice_told, read_more, is_held, is_fresh, row_kept, row_left}
 use Rattle.cite_cli.proofs.LineFaults.{row_cells_count}

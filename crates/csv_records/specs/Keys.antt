@@ -5,7 +5,7 @@ use Rattle.std.specs.BTreeSet.{contains_by}
 use Rattle.cite_schema.specs.Values.{text_cmp}
 use Rattle.cite_schema.specs.declared.value.Value.{Value}
 use Rattle.cite_schema.specs.declared.value.Value.TheVariants.{Int, Text}
-use Rattle.cite_schema.specs.declared.key_set.KeySet.{KeySet}
+use Rattle.csv_records.specs.declared.key_set.KeySet.{KeySet}
 
 -- the key is among those of the set
 abbrev pub holds : KeySet → Value → Bool

@@ -3,12 +3,12 @@ use Rattle.std.specs.Prelude.{◌||◌}
 use Rattle.std.specs.List.{list_any}
 use Rattle.std.specs.Ordering.{is_eq}
 use Rattle.cite_schema.specs.Values.{value_cmp, text_cmp}
-use Rattle.cite_schema.specs.Keys.{holds}
+use Rattle.csv_records.specs.Keys.{holds}
 use Rattle.cite_schema.specs.declared.value.Value.{Value}
 use Rattle.cite_schema.specs.declared.value.Value.TheVariants.{Int, Text}
-use Rattle.cite_schema.proofs.Keys.{any_insert}
+use Rattle.csv_records.proofs.Keys.{any_insert}
 use Rattle.cite_schema.proofs.Orders.{text_total}
-use Rattle.cite_schema.proofs.key_set.KeySet.insert.Goals as goal
+use Rattle.csv_records.proofs.key_set.KeySet.insert.Goals as goal
 
 pub returns-in_ok-insert-in-Text-clause-added : goal.returns-in_ok-insert-in-Text-clause-added
 returns-in_ok-insert-in-Text-clause-added c v = by v

@@ -2,11 +2,10 @@
 ghost use Rattle.std.specs.Prelude.{◌≡◌, ◌||◌, not, false, IfOk, OnErr, OnOk};
 ghost use Rattle.std.specs.Ordering.{is_eq};
 ghost use Rattle.cite_schema.specs.Values.{value_cmp};
-ghost use Rattle.cite_schema.specs.Keys.{holds};
+ghost use Rattle.csv_records.specs.Keys.{holds};
 ghost use Rattle.cite_schema.specs.declared.value.Value.{Value as Cell};
 
-use crate::memory::NoMemory;
-use crate::value::Value;
+use cite_schema::{NoMemory, Value};
 use std::alloc::Global;
 use std::collections::BTreeSet;
 
