@@ -6,6 +6,8 @@ pub mod Nodes
 pub mod Singles
 pub mod Order
 pub mod Probing
+pub mod Finding
+pub mod Places
 pub mod RisingEdits
 pub mod Paging
 pub mod Walking

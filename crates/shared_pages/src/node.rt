@@ -1,5 +1,5 @@
 // What holds items in order: an item alone, or a page of such.
-ghost use Rattle.std.specs.Prelude.{◌≡◌, ◌∷◌, [], List, length, IfOk, OnOk, Some, refl, cond};
+ghost use Rattle.std.specs.Prelude.{◌≡◌, ◌∷◌, [], List, length, IfOk, OnOk, Some, refl, cond, slice_get};
 ghost use Rattle.std.specs.List.{flat_map};
 ghost use Rattle.std.specs.List.Sorted.{IsStrictlySortedBy};
 ghost use Rattle.shared_pages.specs.Edits.{by_place, edited, given};
@@ -45,6 +45,11 @@ pub trait Node<T: Item>: Placed<T> + Drop {
         requires whole { Self.whole self.now }
         requires sorted { IsStrictlySortedBy T.cmp (items self.now) }
         ensures { option_copied result ≡ last_up_to T.cmp probe.now (items self.now) };
+
+    /// The item at a place among the node's items, counted from 0.
+    fn get(&self, place: u64) -> Option<&T>
+        requires { Self.whole self.now }
+        ensures { option_copied result ≡ slice_get (items self.now) place };
 
     /// The place of a node is its first item.
     ghost led: { (n : Self) → Self.at n ≡ first_of (items n) };
@@ -107,6 +112,10 @@ impl<T: Item> Node<T> for Single<T> {
         } else {
             None
         }
+    }
+
+    fn get(&self, place: u64) -> Option<&T> {
+        if place == 0 { Some(&self.item) } else { None }
     }
 
     ghost led = { λ n. refl };

@@ -6,7 +6,7 @@ ghost use Rattle.shared_pages.specs.Pages.{page_items, IsPage};
 
 use crate::edit::Edit;
 use crate::item::Item;
-use crate::level::{edit_level, last_up_to};
+use crate::level::{edit_level, item_at, last_up_to};
 use crate::node::{Node, Single};
 use crate::search::Placed;
 use cite_schema::{NoMemory, Shared};
@@ -83,6 +83,10 @@ impl<T: Item, N: Node<T>> Node<T> for Page<N> {
 
     fn last_up_to(&self, probe: &T) -> Option<&T> {
         last_up_to(self.nodes.get(), probe)
+    }
+
+    fn get(&self, place: u64) -> Option<&T> {
+        item_at(self.nodes.get(), place)
     }
 
     ghost led = { λ n. refl };

@@ -1,6 +1,7 @@
 // The sequence.
-ghost use Rattle.std.specs.Prelude.{◌≡◌, [], length, IfOk};
-ghost use Rattle.std.specs.List.{AllByRecursion, flat_map};
+ghost use Rattle.std.specs.Prelude.{◌≡◌, [], length, slice_get, IfOk};
+ghost use Rattle.std.specs.List.{AllByRecursion, find, flat_map};
+ghost use Rattle.std.specs.Ordering.{is_eq};
 ghost use Rattle.std.specs.List.Sorted.{IsStrictlySortedBy};
 ghost use Rattle.shared_pages.specs.Singles.{single_item, IsSingle};
 ghost use Rattle.shared_pages.specs.Edits.{by_place, places, edited};
@@ -11,7 +12,7 @@ ghost use Rattle.std.specs.Option.{option_copied};
 
 use crate::edit::Edit;
 use crate::item::Item;
-use crate::level::{edit_level, last_up_to};
+use crate::level::{edit_level, item_at, last_up_to};
 use crate::node::Single;
 use crate::page::{Trunk, count_all, paginate};
 use crate::walk::{Items, walk, walk_from};
@@ -106,6 +107,30 @@ impl<T: Item> Sequence<T> {
         ensures { option_copied result ≡ last_up_to T.cmp probe.now self.now }
     {
         last_up_to(self.trunks.as_slice(), probe)
+    }
+
+    /// The item that is equal to a probe. For n items about log n comparisons.
+    pub fn find(&self, probe: &T) -> Option<&T>
+        ensures { option_copied result ≡ find (λ x. is_eq (T.cmp x probe.now)) self.now }
+    {
+        let _ = &self.trunks;
+        match self.last_up_to(probe) {
+            None => None,
+            Some(item) => {
+                if item.compare(probe).is_eq() {
+                    Some(item)
+                } else {
+                    None
+                }
+            }
+        }
+    }
+
+    /// The item at a place, counted from 0. It goes by the counts of pages, and so past at most some hundred of them.
+    pub fn get(&self, place: u64) -> Option<&T>
+        ensures { option_copied result ≡ slice_get self.now place }
+    {
+        item_at(self.trunks.as_slice(), place)
     }
 
     /// The items, one after the other.

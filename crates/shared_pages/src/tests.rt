@@ -212,3 +212,19 @@ fn items_are_taken_as_they_are(rt: HostRuntime) -> Result<(), Fail> {
     assert_eq!(rt; sequence.len(), 1);
     Ok(())
 }
+
+#[test]
+fn an_item_is_had_by_its_place(rt: HostRuntime) -> Result<(), Fail> {
+    let sequence = even(rt.alloc(), 300_000)?;
+    assert_eq!(rt; sequence.get(0).copied(), Some(numbered(0, 0)));
+    assert_eq!(rt; sequence.get(262_144).copied(), Some(numbered(524_288, 0)));
+    assert_eq!(rt; sequence.get(299_999).copied(), Some(numbered(599_998, 0)));
+    assert!(rt; sequence.get(300_000).is_none());
+    assert_eq!(rt;
+        sequence.find(&numbered(4_444, 9)).copied(),
+        Some(numbered(4_444, 0))
+    );
+    assert!(rt; sequence.find(&numbered(4_445, 0)).is_none());
+    assert!(rt; sequence.get(u64::MAX).is_none());
+    Ok(())
+}
