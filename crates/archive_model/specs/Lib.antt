@@ -1,0 +1,10 @@
+pub mod Archives
+pub mod Limits
+pub mod Outcomes
+pub mod Batching
+pub mod Citing
+pub mod Migrating
+pub mod Histories
+pub mod Agreeing
+pub mod ArchiveLaws
+pub mod AgreeingLaws
