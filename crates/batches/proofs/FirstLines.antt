@@ -41,7 +41,7 @@ untied Greater other = refl
 untied Equal other = absurd (other refl)
 
 -- none of them names the key of a later one
-key_of_own : (before : List Line) (line : Line) (rest : List Line) → NameOwnKeys (before ++ line ∷ rest) → names_key_of before line ≡ false
+pub key_of_own : (before : List Line) (line : Line) (rest : List Line) → NameOwnKeys (before ++ line ∷ rest) → names_key_of before line ≡ false
 key_of_own [] line rest apart = refl
 key_of_own (l ∷ ls) line rest apart =
     let n = length-append ls (line ∷ rest) in

@@ -1,6 +1,6 @@
 pub mod Headers
 pub mod Lines
-pub mod KeySets
+pub mod LineKeys
 pub mod Collecting
 pub mod Bodies
 pub mod FirstLines

@@ -3,23 +3,21 @@ ghost use Rattle.std.specs.Prelude.{◌≡◌, [], IfOk};
 ghost use Rattle.batches.specs.Parts.{key_twice_in, HaveKeys};
 
 use cite_schema::{Line, NoMemory, Value};
-use csv_records::KeySet;
+use csv_records::Keys;
 use std::alloc::Global;
 
-/// The number of the first line whose key a line before it names. A search of an ordered tree for each line: n log n in
-/// the lines.
+/// The number of the first line whose key a line before it names. The keys are sorted: n log n in the lines, and no text
+/// is copied.
 pub(crate) fn key_twice(alloc: Global, lines: &[Line]) -> Result<Option<u32>, NoMemory>
     requires keys { HaveKeys lines.now }
     requires few { length lines.now ≤ 20000 }
     ensures { IfOk result (λ twice. twice ≡ key_twice_in [] 1 lines.now) }
 {
-    let mut keys = KeySet::new(alloc);
+    let mut keys = Keys::new(alloc);
     for (i, line) in lines.iter().enumerate() {
-        if !keys.insert(key_of(line))? {
-            return Ok(Some(i as u32 + 1));
-        }
+        keys.push_borrowed(i as u32 + 1, key_of(line))?;
     }
-    Ok(None)
+    Ok(keys.first_again())
 }
 
 ghost use Rattle.std.specs.Prelude.{◌≤◌, ◌≢◌, Some, None, length};

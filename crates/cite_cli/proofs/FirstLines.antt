@@ -159,7 +159,8 @@ module _ (columns : List Column) where
             breaks = ap (λ l. line_fault columns l g.fields) (sym whole) ∙ g.breaks;
           }
 
-  told : (before : List (List (List ℕ))) (earlier : List (List Value)) (fields : List (List ℕ)) (after : List (List (List ℕ))) (rows : List (List Value)) (refusal : Refusal) → all_some (map (row_of columns) before) ≡ Some rows
+  -- the rule that a line breaks behind lines that break none is the first that all lines break
+  pub told : (before : List (List (List ℕ))) (earlier : List (List Value)) (fields : List (List ℕ)) (after : List (List (List ℕ))) (rows : List (List Value)) (refusal : Refusal) → all_some (map (row_of columns) before) ≡ Some rows
       → Differ key_cmp key_total (earlier ++ rows) → line_fault columns (earlier ++ rows) fields ≡ Some refusal → lines_fault columns earlier (before ++ fields ∷ after) ≡ Some refusal
   told [] earlier fields after rows refusal read apart breaks =
       let none : [] ≡ rows = cc in
@@ -186,7 +187,8 @@ module _ (columns : List Column) where
       let g = all_good fs (earlier ++ new.row ∷ []) (apart_more earlier new.row new.new apart) (sym (none_first columns earlier f fs new.row new.spelled new.new) ∙ e) in
       record { rows = new.row ∷ g.rows; read = reads f fs new.row g.rows new.spelled g.read; apart = subst (λ l. Differ key_cmp key_total l) (append_assoc earlier (new.row ∷ []) g.rows) g.apart }
 
-  none_told : (lines : List (List (List ℕ))) (earlier rows : List (List Value)) → all_some (map (row_of columns) lines) ≡ Some rows → Differ key_cmp key_total (earlier ++ rows) → lines_fault columns earlier lines ≡ None
+  -- lines of rows with keys of their own break no rule
+  pub none_told : (lines : List (List (List ℕ))) (earlier rows : List (List Value)) → all_some (map (row_of columns) lines) ≡ Some rows → Differ key_cmp key_total (earlier ++ rows) → lines_fault columns earlier lines ≡ None
   none_told [] earlier rows read apart = refl
   none_told (f ∷ fs) earlier rows read apart =
       let (z, zs, first, rest, e) = before_some (row_of columns f) (all_some (map (row_of columns) fs)) rows read in

@@ -5,9 +5,10 @@ use Rattle.cite_schema.specs.Tables.{key_cmp}
 use Rattle.cite_schema.specs.TableTexts.{header_of, all_some, row_of}
 use Rattle.cite_schema.specs.declared.value.Value.{Value}
 use Rattle.cite_schema.specs.declared.schema.Column.{Column}
+use Rattle.csv_records.specs.Keys.{IsFirstAgain}
 use Rattle.cite_cli.specs.declared.bounds.Bounds.{Bounds}
 use Rattle.cite_cli.specs.declared.refusal.Refusal.{Refusal}
-use Rattle.cite_cli.specs.declared.refusal.Refusal.TheVariants.{BadHeader}
+use Rattle.cite_cli.specs.declared.refusal.Refusal.TheVariants.{BadHeader, KeyTwice}
 use Rattle.cite_cli.specs.declared.refusal.Fault.{Fault}
 use Rattle.cite_cli.specs.declared.refusal.Fault.TheVariants as faults
 use Rattle.cite_cli.specs.declared.select.Output.{Output}
@@ -52,3 +53,7 @@ pub record ArePicked (columns : List Column) (keeps : List Value → Bool) (line
 abbrev pub Explains : List ℕ → Bounds → List ℕ → Output → Type 0
 Explains column bounds text (Done bytes) = IsFullResult column bounds text bytes
 Explains column bounds text (Refused line) = IsRefusal column bounds text line
+
+-- the fault is that of the first line whose key an earlier line has
+abbrev pub TellsAgain : List Value → Fault → Type 0
+TellsAgain keys fault = (n : ℕ) × (fault ≡ faults.Refused (KeyTwice n)) × IsFirstAgain keys n

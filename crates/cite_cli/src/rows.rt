@@ -9,13 +9,13 @@ use crate::lines::read_row;
 use crate::refusal::{Fault, Refusal};
 use cite_schema::{Column, List, Row, Value};
 use csv::{ByteRecord, Reader};
-use csv_records::{KeySet, read_next};
+use csv_records::{Keys, read_next};
 use std::alloc::Global;
 use subset_query::Normal;
 
 /// The rows that the form picks of the lines that the reader has left, in the order of the lines. One pass over the
-/// lines, and a search of an ordered tree for the key of each: the cost is that of the text, and n log n in its lines.
-/// A row that is not picked leaves its key alone.
+/// lines, and a sort of their keys: the cost is that of the text, and n log n in its lines. A row that is not picked
+/// leaves its key alone.
 ///
 /// # Errors
 ///
@@ -33,21 +33,40 @@ pub fn read_rows(
     ensures ok { IfOk result (λ rows. ArePicked columns.now (formed form.now).keeps (left_of reader.old) rows) }
     ensures why { IfErr result (λ fault. Tells (lines_fault columns.now [] (left_of reader.old)) fault) }
 {
-    let mut keys = KeySet::new(alloc);
+    let mut keys = Keys::new(alloc);
     let mut picked = List::new(alloc);
     let mut fields = ByteRecord::new(alloc);
     let mut line = 0;
     while read_next(reader, &mut fields)? {
         line += 1;
-        let row = read_row(alloc, columns, line, &fields)?;
-        if !keys.insert(key_of(&row))? {
-            return Err(Fault::Refused(Refusal::KeyTwice { line }));
-        }
+        let row = match read_row(alloc, columns, line, &fields) {
+            Ok(row) => row,
+            Err(fault) => return Err(key_twice(keys).unwrap_or(fault)),
+        };
+        keys.push_copy(line, key_of(&row))?;
         if form.picks(&row) {
             picked.push(row)?;
         }
     }
-    Ok(picked)
+    match key_twice(keys) {
+        Some(fault) => Err(fault),
+        None => Ok(picked),
+    }
+}
+
+ghost use Rattle.std.specs.Prelude.{List as Listed, MatchOption};
+ghost use Rattle.cite_schema.specs.declared.value.Value.{Value as Cell};
+ghost use Rattle.csv_records.specs.Keys.{AreKeys, AreApart};
+ghost use Rattle.cite_cli.specs.Parts.{TellsAgain};
+
+// The fault of the first line whose key an earlier line has.
+fn key_twice(keys: Keys<Vec<u8>>) -> Option<Fault>
+    ensures { (named : Listed Cell) → AreKeys (λ t. t.items) keys named → MatchOption result (AreApart named) (λ fault. TellsAgain named fault) }
+{
+    match keys.first_again() {
+        Some(line) => Some(Fault::Refused(Refusal::KeyTwice { line })),
+        None => None,
+    }
 }
 
 ghost use Rattle.std.specs.Prelude.{Some, slice_get};

@@ -1,4 +1,4 @@
 pub mod Fields
-pub mod Keys
+pub mod FirstAgain
 pub mod ReaderSteps
 pub mod RecordSteps

@@ -9,12 +9,12 @@
 
 mod cells;
 mod header;
-mod key_set;
+mod keys;
 mod records;
 
 pub use cells::{Cells, read_cells};
 pub use header::{read_column, read_schema};
-pub use key_set::KeySet;
+pub use keys::Keys;
 pub use records::{field, read_next, records_in};
 
 #[cfg(test)]

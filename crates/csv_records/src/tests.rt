@@ -1,5 +1,5 @@
 // Each public call with ample memory.
-use crate::{Cells, KeySet, field, read_cells, read_column, read_next, read_schema, records_in};
+use crate::{Cells, Keys, field, read_cells, read_column, read_next, read_schema, records_in};
 use cite_schema::{ByteText, Column, Kind, List, NoMemory, Row, Value};
 use csv::ByteRecord;
 use std::alloc::{AllocError, Global};
@@ -125,22 +125,67 @@ fn text_value(alloc: Global, bytes: &[u8]) -> Result<Value, AllocError> {
     Ok(Value::Text(ByteText::from_slice(alloc, bytes)?))
 }
 
-// A number and the text that it prints are two keys.
-#[test]
-fn a_key_that_comes_twice_is_found(rt: HostRuntime) -> Result<(), Fail> {
-    let alloc = rt.alloc();
-    let mut keys = KeySet::new(alloc);
-    let values = [
-        (Value::Int(3), true),
-        (text_value(alloc, b"3")?, true),
-        (Value::Int(-3), true),
-        (Value::Int(3), false),
-        (text_value(alloc, b"")?, true),
-        (text_value(alloc, b"3")?, false),
-    ];
-    for (key, new) in &values {
-        let found = keys.insert(key)?;
-        assert_eq!(rt; found, *new);
+// The first line whose key comes again, where the keys are copied.
+fn first_copied(alloc: Global, keys: &[Value]) -> Result<Option<u32>, NoMemory> {
+    let mut held = Keys::new(alloc);
+    for (i, key) in keys.iter().enumerate() {
+        held.push_copy(i as u32 + 1, key)?;
     }
+    Ok(held.first_again())
+}
+
+// The same, where the texts stay where they are.
+fn first_borrowed(alloc: Global, keys: &[Value]) -> Result<Option<u32>, NoMemory> {
+    let mut held = Keys::new(alloc);
+    for (i, key) in keys.iter().enumerate() {
+        held.push_borrowed(i as u32 + 1, key)?;
+    }
+    Ok(held.first_again())
+}
+
+#[test]
+fn no_key_comes_again(rt: HostRuntime) -> Result<(), Fail> {
+    let alloc = rt.alloc();
+    assert_eq!(rt; first_copied(alloc, &[])?, None);
+    assert_eq!(rt; first_borrowed(alloc, &[])?, None);
+    let one = [Value::Int(7)];
+    assert_eq!(rt; first_copied(alloc, &one)?, None);
+    assert_eq!(rt; first_borrowed(alloc, &one)?, None);
+    let apart = [Value::Int(7), Value::Int(-7), Value::Int(0)];
+    assert_eq!(rt; first_copied(alloc, &apart)?, None);
+    Ok(())
+}
+
+// Of 5 4 4 5 4 the third comes again first, and not the fourth or the second.
+#[test]
+fn the_first_number_that_comes_again(rt: HostRuntime) -> Result<(), Fail> {
+    let alloc = rt.alloc();
+    let keys = [
+        Value::Int(5),
+        Value::Int(4),
+        Value::Int(4),
+        Value::Int(5),
+        Value::Int(4),
+    ];
+    assert_eq!(rt; first_copied(alloc, &keys)?, Some(3));
+    assert_eq!(rt; first_borrowed(alloc, &keys)?, Some(3));
+    Ok(())
+}
+
+// A number and the text that it prints are two keys, and so are a text and a longer one.
+#[test]
+fn the_first_text_that_comes_again(rt: HostRuntime) -> Result<(), Fail> {
+    let alloc = rt.alloc();
+    let keys = [
+        Value::Int(3),
+        text_value(alloc, b"3")?,
+        text_value(alloc, b"33")?,
+        text_value(alloc, b"")?,
+        text_value(alloc, b"3")?,
+        Value::Int(3),
+    ];
+    assert_eq!(rt; first_copied(alloc, &keys)?, Some(5));
+    assert_eq!(rt; first_borrowed(alloc, &keys)?, Some(5));
+    assert_eq!(rt; first_copied(alloc, &keys[..4])?, None);
     Ok(())
 }

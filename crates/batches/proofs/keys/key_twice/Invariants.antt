@@ -1,4 +1,4 @@
-use Rattle.batches.proofs.KeySets.{ReadKeys}
+use Rattle.batches.proofs.LineKeys.{ReadKeys}
 use Rattle.batches.proofs.keys.key_twice.Given as goal
 
 abbrev pub invariant-loop-i : goal.invariant-loop-i
