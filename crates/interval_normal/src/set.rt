@@ -50,6 +50,15 @@ impl<P: Point> Set<P> {
         }
     }
 
+    /// The set with these spans, which have to be in the normal form: none empty, rising, and none touching the next. The
+    /// list is moved; it takes no memory, and no time that depends on the number of spans.
+    pub fn from_spans(spans: List<Span<P>>) -> Set<P>
+        requires { IsCanonical P.valid P.cmp spans }
+        ensures { result ≡ spans }
+    {
+        Set { spans }
+    }
+
     /// The set of all values.
     pub fn full(alloc: Global) -> Result<Set<P>, NoMemory>
         ensures { IfOk result (λ r. (x : P) → P.valid x → has P.cmp r x ≡ true) }

@@ -1,5 +1,11 @@
+// Sets of numbers and of texts, each worked by hand.
+ghost use Rattle.std.specs.Prelude.{IfOk, IsTrue};
+ghost use Rattle.std.specs.Ordering.{int_cmp};
+ghost use Rattle.cite_schema.specs.Values.{is_number};
+ghost use Rattle.interval_normal.specs.Spans.{IsCanonical};
+
 use crate::{Point, Set, Span, prefix_set, same_values_same_list};
-use cite_schema::{ByteText, NoMemory};
+use cite_schema::{ByteText, List, NoMemory};
 use std::alloc::Global;
 use std::test::Fail;
 
@@ -179,6 +185,61 @@ fn ends_of_intersections(rt: HostRuntime) -> Result<(), Fail> {
     assert!(rt; have_in_common(alloc, &from_five, &from_three, &[(5, None)])?);
     assert!(rt; have_in_common(alloc, &from_three, &from_three, &[(3, None)])?);
     assert!(rt; have_in_common(alloc, &from_five, &below_three, &[])?);
+    Ok(())
+}
+
+// The numbers from `low` up to and without `high`.
+fn between(alloc: Global, low: i64, high: i64) -> Result<Set<i64>, NoMemory> {
+    let from = Set::from(alloc, &low)?;
+    let below = Set::below(alloc, &high)?;
+    from.intersect(alloc, &below)
+}
+
+// Of two spans that end at one place, both end first.
+#[test]
+fn spans_that_end_together(rt: HostRuntime) -> Result<(), Fail> {
+    let alloc = rt.alloc();
+    let wide = between(alloc, 1, 5)?;
+    let narrow = between(alloc, 3, 5)?;
+    assert!(rt; have_in_common(alloc, &wide, &narrow, &[(3, Some(5))])?);
+    assert!(rt; have_in_common(alloc, &wide, &wide, &[(1, Some(5))])?);
+    Ok(())
+}
+
+fn texts_from_a(alloc: Global) -> Result<Set<ByteText>, NoMemory> {
+    let a = text(alloc, b"a")?;
+    Set::from(alloc, &a)
+}
+
+#[test]
+fn texts_in_common(rt: HostRuntime) -> Result<(), Fail> {
+    let alloc = rt.alloc();
+    let up_to_a = up_to_a(alloc)?;
+    let from_a = texts_from_a(alloc)?;
+    let a = up_to_a.intersect(alloc, &from_a)?;
+    assert!(rt; is_texts(&a, b"a", Some(b"a\0")));
+    Ok(())
+}
+
+// The numbers from 1 up to 3, and those from 4 on, as a list in the normal form.
+fn two_wide(alloc: Global) -> Result<List<Span<i64>>, NoMemory>
+    ensures { IfOk result (λ spans. IsCanonical (λ z. IsTrue (is_number z)) int_cmp spans) }
+{
+    let mut spans = List::new(alloc);
+    spans.push(Span {
+        low: 1,
+        high: Some(3),
+    })?;
+    spans.push(Span { low: 4, high: None })?;
+    Ok(spans)
+}
+
+#[test]
+fn spans_in_the_normal_form_are_a_set(rt: HostRuntime) -> Result<(), Fail> {
+    let alloc = rt.alloc();
+    let set = Set::from_spans(two_wide(alloc)?);
+    assert!(rt; has_spans(&set, &[(1, Some(3)), (4, None)]));
+    assert!(rt; set.has(&2) && !set.has(&3) && set.has(&4));
     Ok(())
 }
 

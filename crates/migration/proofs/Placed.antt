@@ -1,5 +1,5 @@
 -- Lists of which one place changes, as the program changes them.
-use Rattle.std.proofs.Common.{◌≡◌, ℕ, zero, suc, ◌<◌, ◌≤◌, List, [], ◌∷◌, Option, Some, None, length, get_or, slice_get, slice_set, refl, ap, arith}
+use Rattle.std.proofs.Common.{◌≡◌, ℕ, zero, suc, ◌+◌, drop, drop-cons, sym, ◌∙◌, ◌<◌, ◌≤◌, List, [], ◌∷◌, Option, Some, None, length, get_or, slice_get, slice_set, refl, ap, arith}
 use Rattle.std.specs.Prelude.{option_map}
 use Rattle.std.specs.List.{remove}
 use Rattle.cite_schema.specs.declared.value.Value.{Value}
@@ -69,3 +69,39 @@ pub renamed_row : (c to : List ℕ) (i : ℕ) (row : List Value) → changed_if 
 renamed_row c to i [] = refl
 renamed_row c to zero (v ∷ vs) = ap (option_map (λ w. w ∷ vs)) (renamed_is c to v)
 renamed_row c to (suc i) (v ∷ vs) = ap (option_map (λ ws. v ∷ ws)) (renamed_row c to i vs)
+
+-- the elements from a place on
+pub from_place : {A : Type 0} (xs : List A) (i : ℕ) (x : A) → i < length xs → x ≡ get_or xs i x → drop i xs ≡ x ∷ drop (i + 1) xs
+from_place xs i x lt is = drop-cons xs i x lt ∙ ap (λ y. y ∷ drop (suc i) xs) (sym is) ∙ ap (λ j. x ∷ drop j xs) (one_more i)
+  where
+    one_more : (j : ℕ) → suc j ≡ j + 1
+    one_more j = omega arith
+
+nothing : {A : Type 0} (y : A) (ys : List A) → [] ≡ y ∷ ys → ⊥
+nothing y ys e = cc
+
+-- where elements are left, the place is one of them
+pub cons_within : {A : Type 0} (i : ℕ) (xs : List A) (y : A) (ys : List A) → drop i xs ≡ y ∷ ys → i < length xs
+cons_within zero [] y ys e = absurd (nothing y ys e)
+cons_within (suc i) [] y ys e = absurd (nothing y ys e)
+cons_within zero (x ∷ xs) y ys e = omega arith
+cons_within (suc i) (x ∷ xs) y ys e = let more = cons_within i xs y ys e in omega arith
+
+-- an element put in place of another, twice
+pub set_again : {A : Type 0} (i : ℕ) (xs : List A) (x y : A) → slice_set (slice_set xs i x) i y ≡ slice_set xs i y
+set_again i [] x y = refl
+set_again zero (z ∷ zs) x y = refl
+set_again (suc i) (z ∷ zs) x y = ap (λ ys. z ∷ ys) (set_again i zs x y)
+
+-- an element at a place does not depend on what stands for one that is missing
+pub same_at : {A : Type 0} (xs : List A) (i : ℕ) (d e : A) → i < length xs → get_or xs i d ≡ get_or xs i e
+same_at [] i d e lt = absurd (omega arith)
+same_at (x ∷ xs) zero d e lt = refl
+same_at (x ∷ xs) (suc i) d e lt = same_at xs i d e (omega arith)
+
+-- no element is left at the end
+pub none_left : {A : Type 0} (xs : List A) (i : ℕ) → length xs ≤ i → drop i xs ≡ []
+none_left [] zero le = refl
+none_left [] (suc i) le = refl
+none_left (x ∷ xs) zero le = absurd (omega arith)
+none_left (x ∷ xs) (suc i) le = none_left xs i (omega arith)

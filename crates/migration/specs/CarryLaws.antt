@@ -16,8 +16,8 @@ use Rattle.interval_normal.specs.Spans.{IsCanonical}
 use Rattle.subset_query.specs.declared.form.ColumnSet.TheVariants.{Ints}
 use Rattle.subset_query.specs.Forms.{in_set, IsSettled}
 use Rattle.migration.specs.Sets.{is_in_image, span_image}
-use Rattle.migration.specs.Columns.{columns_after_all}
-use Rattle.migration.specs.Rows.{image, carry_row, carry_rows}
+use Rattle.migration.specs.Columns.{columns_after_all, step_places}
+use Rattle.migration.specs.Rows.{image, carry_row, carry_rows, row_at_all}
 use Rattle.migration.specs.Forms.{Carries}
 
 -- a row that is carried by steps without a fault keeps its key
@@ -57,3 +57,7 @@ ScaledSetsAreCanonical = (by plus : ℤ) (spans : List (Span ℤ)) → IsTrue (i
 -- columns that make a schema are carried, by steps without a fault, to columns that make one
 abbrev pub CarriedColumnsMakeSchemas : Type 0
 CarriedColumnsMakeSchemas = (n : ℕ) (columns after : List Column) (steps : List Step) → columns_after_all n columns steps ≡ Ok after → IsTrue (is_heading columns) → IsTrue (is_heading after)
+
+-- what steps make of a row is what they make of it at the places of the columns that they name
+abbrev pub RowsAreCarriedAtPlaces : Type 0
+RowsAreCarriedAtPlaces = (columns : List Column) (steps : List Step) (row : List Value) → row_at_all (step_places columns steps) steps row ≡ carry_row columns steps row

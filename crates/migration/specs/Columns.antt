@@ -42,6 +42,11 @@ columns_after columns (Add c v) = columns ++ record { name = c; kind = kind_of v
 columns_after columns (DropColumn c) = without (place_of columns (DropColumn c)) columns
 columns_after columns step = changed (column_after step) (place_of columns step) columns
 
+-- the place of the column that each step names, among the columns that the steps before it leave
+abbrev pub step_places : List Column → List Step → List ℕ
+step_places columns [] = []
+step_places columns (x ∷ xs) = place_of columns x ∷ step_places (columns_after columns x) xs
+
 -- a value that may come in from outside
 abbrev pub may_come_in : Value → Bool
 may_come_in v = is_value_of (kind_of v) v && is_short v

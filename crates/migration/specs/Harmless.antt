@@ -24,14 +24,18 @@ abbrev pub PartsHaveAForm : Type 0
 PartsHaveAForm = (n : ℕ) (columns : List Column) (step : Step) (form : Normal) (p : Plan) → IsTrue (is_heading columns) → step_fault columns n step ≡ None → IsSettled columns form
     → parts_after columns step form ≡ Some p → (next : Normal) × CarriesOne columns step form next
 
--- the step renames, adds, or scales a column that is not among those
+-- the step renames, adds, or scales a column that is not among those; it names the one at a place
+abbrev pub harmless_at : ℕ → Step → List ℕ → Bool
+harmless_at i (Rename c to) printed = true
+harmless_at i (Add c v) printed = true
+harmless_at i (Scale c by plus) printed = not (is_among i printed)
+harmless_at i (DropColumn c) printed = false
+harmless_at i (Recode c old new) printed = false
+harmless_at i (RetypeToText c) printed = false
+
+-- the step does, on columns
 abbrev pub harmless_step : List Column → Step → List ℕ → Bool
-harmless_step columns (Rename c to) printed = true
-harmless_step columns (Add c v) printed = true
-harmless_step columns (Scale c by plus) printed = not (is_among (place_of columns (Scale c by plus)) printed)
-harmless_step columns (DropColumn c) printed = false
-harmless_step columns (Recode c old new) printed = false
-harmless_step columns (RetypeToText c) printed = false
+harmless_step columns step printed = harmless_at (place_of columns step) step printed
 
 -- each of the steps does
 abbrev pub all_harmless : List Column → List Step → List ℕ → Bool

@@ -1,10 +1,15 @@
 // Laws of carrying. Each stands on a call that does nothing.
-ghost use Rattle.migration.specs.CarryLaws.{CarriedKeysStay, CarriedTablesAreTables, CarriedColumnsMakeSchemas, FormsAreCarriedToOneForm, ScaledSetsAreExact, ScaledSetsAreCanonical};
+ghost use Rattle.migration.specs.CarryLaws.{CarriedKeysStay, CarriedTablesAreTables, CarriedColumnsMakeSchemas, RowsAreCarriedAtPlaces, FormsAreCarriedToOneForm, ScaledSetsAreExact, ScaledSetsAreCanonical};
 ghost use Rattle.migration.specs.Harmless.{PartsHaveAForm, HarmlessStepsCarry};
 
 /// Steps without a fault make columns of a schema into columns of a schema.
 pub fn carried_columns_make_schemas()
     ensures { CarriedColumnsMakeSchemas }
+{}
+
+/// What steps make of a row is what they make of it at the places of the columns that they name.
+pub fn rows_are_carried_at_places()
+    ensures { RowsAreCarriedAtPlaces }
 {}
 
 /// A row that is carried keeps its key. So rows with different keys stay apart.

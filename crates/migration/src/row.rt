@@ -5,18 +5,19 @@ ghost use Rattle.cite_schema.specs.Values.{value_cmp, is_number};
 ghost use Rattle.cite_schema.specs.Tables.{fits};
 ghost use Rattle.migration.specs.Columns as columns_spec;
 ghost use Rattle.migration.specs.Places.{changed_if};
-ghost use Rattle.migration.specs.Rows.{image, value_after, row_after, carry_row};
+ghost use Rattle.migration.specs.Rows.{image, value_after, row_at, row_at_all, carry_row};
 
-use crate::columns::{columns_after, is_same, place_of};
+use crate::columns::is_same;
+use crate::named::step_places;
 use crate::numbers::scaled;
 use crate::places::without;
-use crate::schema::copied_columns;
-use cite_schema::{Column, List, NoMemory, Row, Schema, Step, Value, print_value};
+use cite_schema::{List, NoMemory, Row, Schema, Step, Value, print_value};
 use std::alloc::Global;
+use std::mem;
 
 /// What the steps make of a row: `None` exactly where a step scales a number out of the range from −2^63 to 2^63 − 1.
-/// Each step costs a comparison with each column; the row's values are copied once, and so are the names of the
-/// columns.
+/// Each step costs a comparison with each column; the row's values are copied once. For many rows, find the places once
+/// and call `carry_row_at`.
 pub fn carry_row(
     alloc: Global,
     schema: &Schema,
@@ -27,9 +28,24 @@ pub fn carry_row(
     requires row { IsTrue (fits schema.now.columns row.now) }
     ensures { IfOk result (λ carried. carried ≡ carry_row schema.now.columns steps.now row.now) }
 {
-    let columns = copied_columns(alloc, schema.columns().as_slice())?;
+    let places = step_places(alloc, schema, steps)?;
+    let carried = carry_row_at(alloc, &places, steps, row)?;
+    Ok(carried)
+}
+
+/// What steps make of a row, where each names the column at its place; of places and steps as many count as there are of
+/// both. At the places that `step_places` tells it is what the steps make of a row of the schema
+/// (`rows_are_carried_at_places`). The row's values are copied once, and no name is compared.
+pub fn carry_row_at(
+    alloc: Global,
+    places: &List<usize>,
+    steps: &List<Step>,
+    row: &Row,
+) -> Result<Option<Row>, NoMemory>
+    ensures { IfOk result (λ carried. carried ≡ row_at_all places.now steps.now row.now) }
+{
     let values = row.to_values()?;
-    match carried_values(alloc, columns, steps.as_slice(), values)? {
+    match carried_values(alloc, places.as_slice(), steps.as_slice(), values)? {
         Some(values) => Ok(Some(Row::make(values))),
         None => Ok(None),
     }
@@ -38,34 +54,34 @@ pub fn carry_row(
 // What the steps make of values.
 fn carried_values(
     alloc: Global,
-    columns: List<Column>,
+    places: &[usize],
     steps: &[Step],
     values: List<Value>,
 ) -> Result<Option<List<Value>>, NoMemory>
-    ensures { IfOk result (λ carried. carried ≡ carry_row columns steps.now values) }
+    ensures { IfOk result (λ carried. carried ≡ row_at_all places.now steps.now values) }
 {
-    let mut current = columns;
     let mut carried = values;
-    for step in steps {
-        match values_after(alloc, current.as_slice(), step, carried)? {
+    for i in 0..steps.len() {
+        if i >= places.len() {
+            return Ok(Some(carried));
+        }
+        match values_after(alloc, places[i], &steps[i], carried)? {
             Some(after) => carried = after,
             None => return Ok(None),
         }
-        current = columns_after(current, step)?;
     }
     Ok(Some(carried))
 }
 
-// What a step makes of the values of a row.
+// What a step that names the column at a place makes of the values of a row.
 fn values_after(
     alloc: Global,
-    columns: &[Column],
+    place: usize,
     step: &Step,
     values: List<Value>,
 ) -> Result<Option<List<Value>>, NoMemory>
-    ensures { IfOk result (λ after. after ≡ row_after columns.now step.now values) }
+    ensures { IfOk result (λ after. after ≡ row_at place step.now values) }
 {
-    let place = place_of(columns, step);
     match step {
         Step::Rename { .. } => Ok(Some(values)),
         Step::Add { value, .. } => {
@@ -94,7 +110,8 @@ fn changed_at(
     if place >= values.len() {
         return Ok(Some(List::from_vec(values)));
     }
-    match value_after(alloc, step, &values[place])? {
+    let value = mem::replace(&mut values[place], Value::Int(0));
+    match value_after(alloc, step, value)? {
         Some(value) => {
             values[place] = value;
             Ok(Some(List::from_vec(values)))
@@ -103,23 +120,23 @@ fn changed_at(
     }
 }
 
-// What a step makes of a value in the column that it names.
-fn value_after(alloc: Global, step: &Step, value: &Value) -> Result<Option<Value>, NoMemory>
-    ensures { IfOk result (λ after. after ≡ value_after step.now value.now) }
+// What a step makes of a value in the column that it names. A value that stays is moved.
+fn value_after(alloc: Global, step: &Step, value: Value) -> Result<Option<Value>, NoMemory>
+    ensures { IfOk result (λ after. after ≡ value_after step.now value) }
 {
     match (step, value) {
-        (Step::Scale { by, plus, .. }, Value::Int(number)) => match scaled(*by, *plus, *number) {
+        (Step::Scale { by, plus, .. }, Value::Int(number)) => match scaled(*by, *plus, number) {
             Some(image) => Ok(Some(Value::Int(image))),
             None => Ok(None),
         },
-        (Step::Recode { old, new, .. }, _) => {
-            if is_same(value, old) {
+        (Step::Recode { old, new, .. }, value) => {
+            if is_same(&value, old) {
                 Ok(Some(new.copy()?))
             } else {
-                Ok(Some(value.copy()?))
+                Ok(Some(value))
             }
         }
-        (Step::RetypeToText { .. }, _) => Ok(Some(Value::Text(print_value(alloc, value)?))),
-        _ => Ok(Some(value.copy()?)),
+        (Step::RetypeToText { .. }, value) => Ok(Some(Value::Text(print_value(alloc, &value)?))),
+        (_, value) => Ok(Some(value)),
     }
 }

@@ -1,7 +1,6 @@
 // Carrying schemas.
-ghost use Rattle.std.specs.Prelude.{ℕ, ◌≡◌, ◌≢◌, ◌<◌, ◌-◌, ◌^◌, ◌+◌, IfOk, IfErr, IsTrue, None, Ok, Err, length, ◌≤◌};
-ghost use Rattle.cite_schema.specs.Headings.{is_heading};
-ghost use Rattle.migration.specs.Columns.{columns_after, columns_after_all, carry_schema, step_fault};
+ghost use Rattle.std.specs.Prelude.{◌≡◌, ◌≢◌, ◌<◌, ◌-◌, ◌^◌, IfOk, IfErr, Ok, Err, length, ◌≤◌};
+ghost use Rattle.migration.specs.Columns.{columns_after_all, carry_schema};
 
 use crate::columns::{columns_after, step_fault};
 use crate::fault::StepFault;
@@ -27,8 +26,8 @@ pub fn carry_schema(alloc: Global, schema: &Schema, steps: &List<Step>) -> Resul
     }
 }
 
-/// The same columns again.
-pub fn copied_columns(alloc: Global, columns: &[Column]) -> Result<List<Column>, NoMemory>
+// The same columns again.
+fn copied_columns(alloc: Global, columns: &[Column]) -> Result<List<Column>, NoMemory>
     ensures { IfOk result (λ copied. copied ≡ columns.now) }
 {
     let mut copied = List::new(alloc);
@@ -55,28 +54,4 @@ fn carried_columns(columns: List<Column>, steps: &[Step]) -> Result<List<Column>
         carried = columns_after(carried, &steps[i])?;
     }
     Ok(carried)
-}
-
-/// The same schema again.
-pub fn copied_schema(alloc: Global, schema: &Schema) -> Result<Schema, NoMemory>
-    ensures { IfOk result (λ copied. copied ≡ schema.now) }
-{
-    let columns = copied_columns(alloc, schema.columns().as_slice())?;
-    match Schema::make(schema.number(), columns) {
-        Ok(copied) => Ok(copied),
-        Err(_) => unreachable!(),
-    }
-}
-
-/// The schema after a step without a fault, with the number that it had.
-pub fn schema_after(schema: Schema, step: &Step) -> Result<Schema, NoMemory>
-    requires { (n : ℕ) × (step_fault schema.columns n step.now ≡ None) }
-    ensures { IfOk result (λ after. after ≡ record { number = schema.number; columns = columns_after schema.columns step.now }) }
-{
-    let number = schema.number();
-    let columns = columns_after(schema.into_columns(), step)?;
-    match Schema::make(number, columns) {
-        Ok(after) => Ok(after),
-        Err(_) => unreachable!(),
-    }
 }

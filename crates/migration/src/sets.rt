@@ -1,5 +1,5 @@
 // What a step makes of the set of a column.
-ghost use Rattle.std.specs.Prelude.{ℤ, ◌≡◌, ◌&&◌, IfOk, IsTrue, if◌then◌else◌};
+ghost use Rattle.std.specs.Prelude.{ℤ, pos, int_lt, ◌≡◌, ◌&&◌, IfOk, IsTrue, if◌then◌else◌};
 ghost use Rattle.std.specs.Ordering.{int_cmp, is_eq};
 ghost use Rattle.cite_schema.specs.Values.{value_cmp, is_value_of, is_number, printed};
 ghost use Rattle.cite_schema.specs.declared.value.Value.{Value as Cell};
@@ -11,7 +11,7 @@ ghost use Rattle.subset_query.specs.Settling.{own_kind};
 ghost use Rattle.migration.specs.Sets.{is_full, is_in_image, only_number};
 ghost use Rattle.migration.specs.Carrying.{IsRetyped, IsSetAfter, Changes};
 
-use crate::spans::{is_one, set_of_spans, span_images};
+use crate::spans::{is_one, span_images};
 use cite_schema::{ByteText, NoMemory, Step, Value, print_value};
 use interval_normal::{Point, Set, Span};
 use std::alloc::Global;
@@ -41,13 +41,14 @@ pub fn set_after(alloc: Global, step: &Step, set: &ColumnSet) -> Result<Option<C
     }
 }
 
-// The images of the numbers of a set, span by span.
+// The images of the numbers of a set, span by span: the images of spans in the normal form are in it again.
+#[tactic(auto, using(crate::proofs::ScaledSpans::scaled_canonical))]
 fn scaled_set(alloc: Global, by: i64, plus: i64, numbers: &Set<i64>) -> Result<Set<i64>, NoMemory>
+    requires { IsTrue (int_lt (pos 0) by) }
     ensures { IfOk result (λ set. (z : ℤ) → IsTrue (is_number z) → has int_cmp set z ≡ is_in_image by plus numbers.now (Int z)) }
 {
     let images = span_images(alloc, by, plus, numbers.spans().as_slice())?;
-    let set = set_of_spans(alloc, images.as_slice())?;
-    Ok(set)
+    Ok(Set::from_spans(images))
 }
 
 // The set in which `new` is exactly where `old` was in it, and all else is as it was.

@@ -1,17 +1,13 @@
 // Spans of numbers under a scale.
-ghost use Rattle.std.specs.Prelude.{ℤ, ◌≡◌, Some, ◌∷◌, [], IfOk, IsTrue};
+ghost use Rattle.std.specs.Prelude.{◌≡◌, Some, IfOk};
 ghost use Rattle.std.specs.List.{flat_map};
 ghost use Rattle.std.specs.Option.{option_to_list};
-ghost use Rattle.std.specs.Ordering.{int_cmp};
-ghost use Rattle.cite_schema.specs.Values.{is_number};
-ghost use Rattle.interval_normal.specs.Spans.{has, in_span};
-ghost use Rattle.interval_normal.specs.declared.set.Span.{Span as Interval};
 ghost use Rattle.migration.specs.Rows.{image};
 ghost use Rattle.migration.specs.Sets.{is_one, one_span, low_image, high_image, span_image};
 
 use crate::numbers::{image, scaled};
 use cite_schema::{List, NoMemory};
-use interval_normal::{Set, Span};
+use interval_normal::Span;
 use std::alloc::Global;
 
 /// Whether the span holds its low end alone.
@@ -108,39 +104,4 @@ pub fn span_images(
         }
     }
     Ok(images)
-}
-
-// The numbers of a span.
-fn set_of_span(alloc: Global, span: &Span<i64>) -> Result<Set<i64>, NoMemory>
-    ensures { IfOk result (λ set. (z : ℤ) → IsTrue (is_number z) → has int_cmp set z ≡ in_span int_cmp span.now z) }
-{
-    let from = Set::from(alloc, &span.low)?;
-    match &span.high {
-        None => Ok(from),
-        Some(high) => {
-            let below = Set::below(alloc, high)?;
-            let both = from.intersect(alloc, &below)?;
-            Ok(both)
-        }
-    }
-}
-
-/// The numbers of the spans. It joins the sets of the two halves of the list: for n spans it takes n log n comparisons.
-pub fn set_of_spans(alloc: Global, spans: &[Span<i64>]) -> Result<Set<i64>, NoMemory>
-    ensures { IfOk result (λ set. (z : ℤ) → IsTrue (is_number z) → has int_cmp set z ≡ has int_cmp spans.now z) }
-{
-    match spans {
-        [] => Ok(Set::empty(alloc)),
-        [span] => {
-            let set = set_of_span(alloc, span)?;
-            Ok(set)
-        }
-        _ => {
-            let half = spans.len() / 2;
-            let left = set_of_spans(alloc, &spans[..half])?;
-            let right = set_of_spans(alloc, &spans[half..])?;
-            let both = left.union(alloc, &right)?;
-            Ok(both)
-        }
-    }
 }

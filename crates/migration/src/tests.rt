@@ -1,12 +1,12 @@
-// Steps on schemas, rows and forms, with what they make written out by hand.
-use crate::{StepFault, carry_normal, carry_row, carry_schema, harmless};
-use cite_schema::{
-    Along, Asked, ByteText, Column, Cond, Kind, List, NoMemory, OnColumn, Query, Row, Schema, Step,
-    Value, print_value,
+// Steps on schemas and rows, with what they make written out by hand.
+use crate::{
+    StepFault, carry_row, carry_row_at, carry_schema, rows_are_carried_at_places, step_places,
 };
+use cite_schema::{ByteText, Column, Kind, List, NoMemory, Row, Schema, Step, Value, print_value};
 use std::alloc::Global;
 use std::test::Fail;
-use subset_query::{check, normal};
+
+mod forms;
 
 fn text(alloc: Global, bytes: &[u8]) -> Result<ByteText, NoMemory> {
     let text = ByteText::from_slice(alloc, bytes)?;
@@ -255,6 +255,36 @@ fn texts_have_65535_bytes_at_most(rt: HostRuntime) -> Result<(), Fail> {
     Ok(())
 }
 
+#[test]
+fn recoded_texts_are_no_longer(rt: HostRuntime) -> Result<(), Fail> {
+    let alloc = rt.alloc();
+    let old = long(alloc, 1)?;
+    let too_long = recode(alloc, b"t", old, long(alloc, 65_536)?);
+    assert!(rt; has(alloc, too_long, Some(StepFault::BadStep(1)))?);
+    Ok(())
+}
+
+#[test]
+fn no_step_makes_another_key(rt: HostRuntime) -> Result<(), Fail> {
+    let alloc = rt.alloc();
+    let key = Some(StepFault::KeyColumn(1));
+    assert!(rt; has(alloc, scale(alloc, b"sid", 2, 0), key)?);
+    assert!(rt; has(alloc, retype(alloc, b"sid"), key)?);
+    let recoded = recode(alloc, b"sid", Value::Int(1), Value::Int(2));
+    assert!(rt; has(alloc, recoded, key)?);
+    Ok(())
+}
+
+#[test]
+fn a_name_is_added_once(rt: HostRuntime) -> Result<(), Fail> {
+    let alloc = rt.alloc();
+    let taken = add(alloc, b"x", Value::Int(0));
+    assert!(rt; has(alloc, taken, Some(StepFault::NameTaken(1)))?);
+    let unnamed = add(alloc, b"", Value::Int(0));
+    assert!(rt; has(alloc, unnamed, Some(StepFault::BadStep(1)))?);
+    Ok(())
+}
+
 // The first step in order with a fault is told, on the columns as the steps before it left them.
 #[test]
 fn the_first_step_with_a_fault_is_told(rt: HostRuntime) -> Result<(), Fail> {
@@ -385,291 +415,63 @@ fn a_number_out_of_range_is_not_carried(rt: HostRuntime) -> Result<(), Fail> {
     Ok(())
 }
 
-// A query of the three columns: a condition on x, and the columns that are shown.
-fn asking(alloc: Global, cond: Option<Cond>, shown: &[&[u8]]) -> Result<Query, NoMemory> {
-    let mut conds = List::new(alloc);
-    if let Some(cond) = cond {
-        let column = text(alloc, b"x")?;
-        conds.push(OnColumn { column, cond })?;
-    }
-    let mut items = List::new(alloc);
-    for name in shown {
-        let column = text(alloc, name)?;
-        let label = text(alloc, name)?;
-        items.push(Asked { column, label })?;
-    }
-    let order = List::new(alloc);
-    Ok(Query {
-        conds,
-        items,
-        order,
-    })
+#[test]
+fn the_greatest_factor_carries_what_stays_in_range(rt: HostRuntime) -> Result<(), Fail> {
+    let alloc = rt.alloc();
+    let widest = scale(alloc, b"x", i64::MAX, i64::MIN);
+    assert!(rt; becomes(alloc, 1, widest, b"-1")?);
+    let widest = scale(alloc, b"x", i64::MAX, i64::MIN);
+    assert!(rt; becomes(alloc, 2, widest, b"9223372036854775806")?);
+    let widest = scale(alloc, b"x", i64::MAX, i64::MIN);
+    assert!(rt; second(alloc, 3, widest)?.is_none());
+    Ok(())
 }
 
-// The query, ordered by the column.
-fn ordered(alloc: Global, query: Result<Query, NoMemory>, name: &[u8]) -> Result<Query, NoMemory> {
-    let mut query = query?;
-    let column = text(alloc, name)?;
-    query.order.push(Along {
-        column,
-        down: false,
-    })?;
-    Ok(query)
-}
-
-// What the carried form of the query prints, or `-` where it is not carried.
-fn printed(
+// The places of the columns that two steps on the three columns name, and the row (1, x, "b") carried at them.
+fn at_places(
     alloc: Global,
-    schema: &Schema,
-    steps: &List<Step>,
-    query: &Query,
-) -> Result<ByteText, NoMemory> {
-    if schema.number() >= u32::MAX || check(schema, query).is_err() {
-        return text(alloc, b"refused");
-    }
-    let form = normal(alloc, schema, query)?;
-    match carry_schema(alloc, schema, steps) {
-        Ok(_) => match carry_normal(alloc, schema, steps, &form)? {
-            Some(carried) => carried.print(alloc),
-            None => text(alloc, b"-"),
-        },
-        Err(_) => text(alloc, b"fault"),
-    }
-}
-
-fn carried(alloc: Global, query: &Query, steps: &List<Step>) -> Result<ByteText, NoMemory> {
+    x: i64,
+    steps: Result<List<Step>, NoMemory>,
+) -> Result<Option<(List<usize>, Row)>, NoMemory> {
+    let steps = steps?;
     let columns = columns(alloc)?;
-    match Schema::make(1, columns) {
-        Ok(schema) => printed(alloc, &schema, steps, query),
-        Err(_) => text(alloc, b"no schema"),
-    }
-}
-
-// Whether the form of the query prints this after the step, or is not carried where it is `-`.
-fn prints(
-    alloc: Global,
-    query: Result<Query, NoMemory>,
-    step: Result<Step, NoMemory>,
-    printed: &[u8],
-) -> Result<bool, NoMemory> {
-    let query = query?;
-    let steps = one(alloc, step)?;
-    let found = carried(alloc, &query, &steps)?;
-    Ok(found.as_slice() == printed)
-}
-
-// The same of the query for `sid` where x meets a condition, without the line of labels and what follows.
-fn set_is(
-    alloc: Global,
-    cond: Cond,
-    step: Result<Step, NoMemory>,
-    line: &[u8],
-) -> Result<bool, NoMemory> {
-    let query = asking(alloc, Some(cond), &[b"sid"])?;
-    let steps = one(alloc, step)?;
-    let found = carried(alloc, &query, &steps)?;
-    Ok(found.as_slice().starts_with(line))
-}
-
-#[test]
-fn spans_are_scaled(rt: HostRuntime) -> Result<(), Fail> {
-    let alloc = rt.alloc();
-    let below = Cond::Lt(Value::Int(5));
-    assert!(rt;
-        set_is(
-            alloc,
-            below,
-            scale(alloc, b"x", 2, 1),
-            b"some\ncolumn 1 [-9223372036854775808,11)\nitem"
-        )?
-    );
-    let four = Cond::Eq(Value::Int(4));
-    assert!(rt;
-        set_is(
-            alloc,
-            four,
-            scale(alloc, b"x", 2, 1),
-            b"some\ncolumn 1 [9,10)\nitem"
-        )?
-    );
-    let from = Cond::Ge(Value::Int(5));
-    assert!(rt;
-        set_is(
-            alloc,
-            from,
-            scale(alloc, b"x", 3, 0),
-            b"some\ncolumn 1 [15,none)\nitem"
-        )?
-    );
-    Ok(())
-}
-
-#[test]
-fn spans_out_of_range_are_dropped(rt: HostRuntime) -> Result<(), Fail> {
-    let alloc = rt.alloc();
-    let from = Cond::Ge(Value::Int(5));
-    assert!(rt; set_is(alloc, from, scale(alloc, b"x", i64::MAX, 0), b"none\nlabel")?);
-    let below = Cond::Lt(Value::Int(0));
-    assert!(rt;
-        set_is(
-            alloc,
-            below,
-            scale(alloc, b"x", 1, i64::MIN),
-            b"none\nlabel"
-        )?
-    );
-    let two = Cond::Eq(Value::Int(2));
-    assert!(rt; set_is(alloc, two, scale(alloc, b"x", i64::MAX, 0), b"none\nlabel")?);
-    Ok(())
-}
-
-#[test]
-fn sets_are_recoded(rt: HostRuntime) -> Result<(), Fail> {
-    let alloc = rt.alloc();
-    let out = recode(alloc, b"x", Value::Int(1), Value::Int(2));
-    assert!(rt; set_is(alloc, Cond::Eq(Value::Int(2)), out, b"none\nlabel")?);
-    let torn = recode(alloc, b"x", Value::Int(1), Value::Int(7));
-    assert!(rt;
-        set_is(
-            alloc,
-            Cond::Ge(Value::Int(5)),
-            torn,
-            b"some\ncolumn 1 [5,7) [8,none)\nitem"
-        )?
-    );
-    let put = recode(alloc, b"x", Value::Int(5), Value::Int(9));
-    assert!(rt;
-        set_is(
-            alloc,
-            Cond::Eq(Value::Int(5)),
-            put,
-            b"some\ncolumn 1 [5,6) [9,10)\nitem"
-        )?
-    );
-    Ok(())
-}
-
-#[test]
-fn full_sets_and_single_numbers_are_retyped(rt: HostRuntime) -> Result<(), Fail> {
-    let alloc = rt.alloc();
-    let one = Cond::Eq(Value::Int(-5));
-    assert!(rt;
-        set_is(
-            alloc,
-            one,
-            retype(alloc, b"x"),
-            b"some\ncolumn 1 [2d35,2d3500)\nitem"
-        )?
-    );
-    let half = Cond::Ge(Value::Int(1));
-    assert!(rt; set_is(alloc, half, retype(alloc, b"x"), b"-")?);
-    let full = Cond::Ge(Value::Int(i64::MIN));
-    assert!(rt; set_is(alloc, full, retype(alloc, b"x"), b"some\nitem")?);
-    Ok(())
-}
-
-#[test]
-fn a_column_is_dropped_where_nothing_asks_for_it(rt: HostRuntime) -> Result<(), Fail> {
-    let alloc = rt.alloc();
-    let half = Cond::Ge(Value::Int(1));
-    assert!(rt; set_is(alloc, half, drop_column(alloc, b"x"), b"-")?);
-    let shown = asking(alloc, None, &[b"x"]);
-    assert!(rt; prints(alloc, shown, drop_column(alloc, b"x"), b"-")?);
-    let behind = ordered(alloc, asking(alloc, None, &[b"t"]), b"t");
-    assert!(rt;
-        prints(
-            alloc,
-            behind,
-            drop_column(alloc, b"x"),
-            b"some\nitem column 1 label 74\norder 1 asc\n"
-        )?
-    );
-    Ok(())
-}
-
-#[test]
-fn a_column_that_orders_is_kept(rt: HostRuntime) -> Result<(), Fail> {
-    let alloc = rt.alloc();
-    let by_x = ordered(alloc, asking(alloc, None, &[b"t"]), b"x");
-    assert!(rt; prints(alloc, by_x, drop_column(alloc, b"x"), b"-")?);
-    let again = ordered(alloc, asking(alloc, None, &[b"t"]), b"x");
-    assert!(rt; prints(alloc, again, retype(alloc, b"x"), b"-")?);
-    Ok(())
-}
-
-#[test]
-fn a_constant_stays_as_it_was(rt: HostRuntime) -> Result<(), Fail> {
-    let alloc = rt.alloc();
-    let five = asking(alloc, Some(Cond::Eq(Value::Int(5))), &[b"x"]);
-    assert!(rt;
-        prints(
-            alloc,
-            five,
-            scale(alloc, b"x", 100, 0),
-            b"some\ncolumn 1 [500,501)\nitem constant 35 label 78\n"
-        )?
-    );
-    Ok(())
-}
-
-// Whether the step is harmless for the form of a query; `None` where it has a fault.
-fn harms(
-    alloc: Global,
-    query: Result<Query, NoMemory>,
-    step: Result<Step, NoMemory>,
-) -> Result<Option<bool>, NoMemory> {
-    let query = query?;
-    let columns = columns(alloc)?;
-    let steps = one(alloc, step)?;
-    match Schema::make(1, columns) {
-        Ok(schema) => is_harmless(alloc, &schema, &steps, &query),
-        Err(_) => Ok(None),
-    }
-}
-
-fn is_harmless(
-    alloc: Global,
-    schema: &Schema,
-    steps: &List<Step>,
-    query: &Query,
-) -> Result<Option<bool>, NoMemory> {
-    if schema.number() >= u32::MAX || check(schema, query).is_err() {
+    let Ok(schema) = Schema::make(1, columns) else {
         return Ok(None);
+    };
+    let places = step_places(alloc, &schema, &steps)?;
+    let row = row(alloc, x)?;
+    match carry_row_at(alloc, &places, &steps, &row)? {
+        Some(row) => Ok(Some((places, row))),
+        None => Ok(None),
     }
-    let form = normal(alloc, schema, query)?;
-    match carry_schema(alloc, schema, steps) {
-        Ok(_) => {
-            let yes = harmless(alloc, schema, steps, &form)?;
-            Ok(Some(yes))
-        }
-        Err(_) => Ok(None),
+}
+
+// Whether the second value of the row is the number.
+fn has_second(row: &Row, number: i64) -> bool {
+    match row.values().get(1) {
+        Some(Value::Int(found)) => *found == number,
+        _ => false,
     }
 }
 
 #[test]
-fn only_a_printed_column_is_harmed_by_a_scale(rt: HostRuntime) -> Result<(), Fail> {
+fn a_new_name_is_found(rt: HostRuntime) -> Result<(), Fail> {
     let alloc = rt.alloc();
-    let hidden = asking(alloc, Some(Cond::Ge(Value::Int(5))), &[b"sid"]);
-    assert_eq!(rt; harms(alloc, hidden, scale(alloc, b"x", 2, 0))?, Some(true));
-    let shown = asking(alloc, None, &[b"x"]);
-    assert_eq!(rt; harms(alloc, shown, scale(alloc, b"x", 2, 0))?, Some(false));
-    let constant = asking(alloc, Some(Cond::Eq(Value::Int(5))), &[b"x"]);
-    assert_eq!(rt;
-        harms(alloc, constant, scale(alloc, b"x", 2, 0))?,
-        Some(true)
-    );
+    let steps = two(alloc, rename(alloc, b"x", b"y"), scale(alloc, b"y", 2, 1));
+    let (places, row) = at_places(alloc, 5, steps)?.expect(&rt, "a row");
+    assert_eq!(rt; places.as_slice(), [1, 1].as_slice());
+    assert!(rt; has_second(&row, 11));
+    rows_are_carried_at_places();
     Ok(())
 }
 
 #[test]
-fn names_harm_nothing_and_drops_may(rt: HostRuntime) -> Result<(), Fail> {
+fn columns_move_up_where_one_goes(rt: HostRuntime) -> Result<(), Fail> {
     let alloc = rt.alloc();
-    let shown = asking(alloc, None, &[b"x"]);
-    assert_eq!(rt; harms(alloc, shown, rename(alloc, b"x", b"y"))?, Some(true));
-    let hidden = asking(alloc, None, &[b"sid"]);
-    assert_eq!(rt;
-        harms(alloc, hidden, drop_column(alloc, b"x"))?,
-        Some(false)
-    );
+    let new = add(alloc, b"new", Value::Int(0));
+    let steps = two(alloc, drop_column(alloc, b"x"), new);
+    let (places, row) = at_places(alloc, 5, steps)?.expect(&rt, "a row");
+    assert_eq!(rt; places.as_slice(), [1, 0].as_slice());
+    assert_eq!(rt; row.values().len(), 3);
     Ok(())
 }

@@ -74,19 +74,18 @@ fn read_meta(alloc: Global, value: &Json) -> Result<Option<Meta>, NoMemory>
     let Some(listed) = value.get("creators") else {
         return Ok(None);
     };
-    let Some(creators) = read_creators(alloc, listed)? else {
+    let Some(title) = value.get("title").and_then(Json::as_str) else {
         return Ok(None);
     };
-    let Some(name) = value.get("title").and_then(Json::as_str) else {
-        return Ok(None);
-    };
-    let title = byte_text(alloc, name)?;
     let Some(description) = described(value.get("description")) else {
+        return Ok(None);
+    };
+    let Some(creators) = read_creators(alloc, listed)? else {
         return Ok(None);
     };
     Ok(Some(Meta {
         creators,
-        title,
+        title: byte_text(alloc, title)?,
         description: byte_text(alloc, description)?,
     }))
 }

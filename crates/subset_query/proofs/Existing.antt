@@ -89,7 +89,7 @@ fixes (Texts (s ∷ ss)) c = inr (by (one_or_two IsTxt text_cmp texts s ss (text
     by (inr two) = (None, fixed_none (Texts (s ∷ ss)) c some (two_texts (s ∷ ss) two))
 
 -- canonical sets, of which one holds nothing, or each is fixed to a value or to none
-all_fixes : (ss : List ColumnSet) → AllByRecursion IsCanonicalSet ss → HasNone ss ⊎ ((os : List (Option Value)) × AreFixing ss os)
+pub all_fixes : (ss : List ColumnSet) → AllByRecursion IsCanonicalSet ss → HasNone ss ⊎ ((os : List (Option Value)) × AreFixing ss os)
 all_fixes [] h = inr ([], tt)
 all_fixes (s ∷ ss) h = by (fixes s h.0) (all_fixes ss h.1)
   where
@@ -98,7 +98,8 @@ all_fixes (s ∷ ss) h = by (fixes s h.0) (all_fixes ss h.1)
     by (inr (o, f)) (inl e) = inl (inr e)
     by (inr (o, f)) (inr (os, fs)) = inr (o ∷ os, (f, fs))
 
-some_labels : (items : List Item) → items ≢ [] → labels items ≢ []
+-- items that are there have labels
+pub some_labels : (items : List Item) → items ≢ [] → labels items ≢ []
 some_labels [] h e = h refl
 some_labels (i ∷ is) h e = cc
 
@@ -231,7 +232,8 @@ cut_once cs conds rest o ss h canonical cells known more = by (column_of cs o.co
         (narrow_one cs ss conds rest o place column s met n h (sym e) (same_at ss place (Ints []) s here) is_met.of_kind is_met.met is_both.of_kind (λ v f. is_both.values v))
         (all_set IsCanonicalSet ss place n canonical is_both.canonical)
 
-neither : (a b : Bool) → (a || b) ≡ false → (a ≡ false) × (b ≡ false)
+-- neither of two tests holds
+pub neither : (a b : Bool) → (a || b) ≡ false → (a ≡ false) × (b ≡ false)
 neither true b e = absurd (cc)
 neither false b e = (refl, e)
 

@@ -4,7 +4,7 @@
 //! form names what a query asks for, however it was written, and a citation of it can be found again (RDA R4).
 //!
 //! - `check` tells which queries may be asked of a schema, and the first fault of one that may not;
-//! - `normal` gives the normal form of such a query, and `settle_form` that of loose parts;
+//! - `normal` gives the normal form of such a query, and `settle_form` and `settle_parts` that of loose parts;
 //! - `Normal::same` tells normal forms apart, exactly where some table tells them apart;
 //! - `Normal::picks`, `rows` and `heads` give what a form picks of a table, and `print` gives its one spelling.
 //!
@@ -35,7 +35,7 @@ pub use laws::{
     settled_forms_are_canonical,
 };
 pub use normal_form::normal;
-pub use settle::settle_form;
+pub use settle::{settle_form, settle_parts};
 
 #[cfg(test)]
 mod tests;

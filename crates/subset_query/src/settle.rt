@@ -1,6 +1,8 @@
 // The settled form of given parts.
-ghost use Rattle.std.specs.Prelude.{◌≡◌, ◌≢◌, IfOk, IsTrue, []};
+ghost use Rattle.std.specs.Prelude.{◌≡◌, ◌≢◌, IfOk, IsTrue, [], List as Listed};
 ghost use Rattle.cite_schema.specs.Answers.{Alike};
+ghost use Rattle.cite_schema.specs.Headings.{is_heading};
+ghost use Rattle.cite_schema.specs.declared.schema.Column as schema_column;
 ghost use Rattle.subset_query.specs.Forms.{formed, in_sets, IsSettled, are_sets_for, AreShownIn, AreColumnsIn};
 
 use crate::fixed::{fixed_values, labels_of, settled_items};
@@ -31,6 +33,21 @@ pub fn settle_form(
     ensures alike { IfOk result (λ form. Alike schema.now.columns (record { keeps = in_sets sets; order = order; items = items }) (formed form)) }
 {
     let _columns = schema.columns();
+    let form = settle_parts(alloc, sets, items, order)?;
+    Ok(form)
+}
+
+/// The same without a schema: the form is settled, and gives the bytes of the parts, for all columns that they fit. The
+/// texts are moved, but for the constants of fixed columns.
+pub fn settle_parts(
+    alloc: Global,
+    sets: List<ColumnSet>,
+    items: List<Item>,
+    order: List<Dir>,
+) -> Result<Normal, NoMemory>
+    ensures settled { IfOk result (λ form. (columns : Listed schema_column.Column) → IsTrue (is_heading columns) → IsTrue (are_sets_for columns sets) → items ≢ [] → AreShownIn columns items → AreColumnsIn columns order → IsSettled columns form) }
+    ensures alike { IfOk result (λ form. (columns : Listed schema_column.Column) → IsTrue (are_sets_for columns sets) → Alike columns (record { keeps = in_sets sets; order = order; items = items }) (formed form)) }
+{
     let Some(fixed) = fixed_values(alloc, sets.as_slice())? else {
         let labels = labels_of(alloc, items)?;
         return Ok(Normal::Nothing { labels });

@@ -89,13 +89,30 @@ fn down_both(alloc: Global) -> Result<List<Dir>, NoMemory>
     Ok(order)
 }
 
-// What the settled form of the parts prints, or `None` where the columns make no schema.
-fn settled(alloc: Global) -> Result<Option<ByteText>, NoMemory> {
+// No number, and 5 alone.
+fn none_and_five(alloc: Global) -> Result<List<ColumnSet>, NoMemory>
+    ensures { IfOk result (λ sets. (c d : schema_column.Column) → c.kind ≡ kinds.Int → d.kind ≡ kinds.Int → IsTrue (are_sets_for (c ∷ d ∷ []) sets)) }
+{
+    let none = Set::empty(alloc);
+    let five = Set::one(alloc, &5)?;
+    let mut sets = List::new(alloc);
+    sets.push(ColumnSet::Ints(none))?;
+    sets.push(ColumnSet::Ints(five))?;
+    Ok(sets)
+}
+
+// What the settled form of the three items prints for those sets, or `None` where the columns make no schema.
+fn settled(
+    alloc: Global,
+    sets: Result<List<ColumnSet>, NoMemory>,
+) -> Result<Option<ByteText>, NoMemory>
+    requires { IfOk sets (λ sets. (c d : schema_column.Column) → c.kind ≡ kinds.Int → d.kind ≡ kinds.Int → IsTrue (are_sets_for (c ∷ d ∷ []) sets)) }
+{
     let columns = two_columns(alloc)?;
     let Ok(schema) = Schema::make(1, columns) else {
         return Ok(None);
     };
-    let sets = all_and_five(alloc)?;
+    let sets = sets?;
     let items = three_items(alloc)?;
     let order = down_both(alloc)?;
     let form = settle_form(alloc, &schema, sets, items, order)?;
@@ -106,10 +123,22 @@ fn settled(alloc: Global) -> Result<Option<ByteText>, NoMemory> {
 #[test]
 fn parts_are_settled(rt: HostRuntime) -> Result<(), Fail> {
     let alloc = rt.alloc();
-    let text = settled(alloc)?.expect(&rt, "a schema");
+    let text = settled(alloc, all_and_five(alloc))?.expect(&rt, "a schema");
     assert_eq!(rt;
         text.as_slice(),
         b"some\ncolumn 1 [5,6)\nitem constant 35 label 78\nitem constant 2d label 63\nitem column 0 label 736964\norder 0 desc\n".as_slice()
+    );
+    Ok(())
+}
+
+// Where a set is empty the labels are left, those of constants too.
+#[test]
+fn parts_that_choose_nothing_are_settled(rt: HostRuntime) -> Result<(), Fail> {
+    let alloc = rt.alloc();
+    let text = settled(alloc, none_and_five(alloc))?.expect(&rt, "a schema");
+    assert_eq!(rt;
+        text.as_slice(),
+        b"none\nlabel 78\nlabel 63\nlabel 736964\n".as_slice()
     );
     Ok(())
 }

@@ -1,6 +1,6 @@
 use Rattle.std.proofs.Common.{◌≡◌, drop}
-use Rattle.migration.specs.Rows.{carry_row}
+use Rattle.migration.specs.Rows.{row_at_all}
 use Rattle.migration.proofs.row.carried_values.Given as goal
 
-abbrev pub invariant-loop-step : goal.invariant-loop-step
-invariant-loop-step l = carry_row l.current (drop l.step-index l.steps) l.carried ≡ carry_row l.fn.columns l.steps l.fn.values
+abbrev pub invariant-loop-i : goal.invariant-loop-i
+invariant-loop-i l = row_at_all (drop l.i l.places) (drop l.i l.steps) l.carried ≡ row_at_all l.places l.steps l.fn.values
