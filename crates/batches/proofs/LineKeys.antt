@@ -89,9 +89,9 @@ twice_named lines named (Some n) names again =
     let behind = again.line in
     let number : n ≡ 1 + length at.before = omega (arith, count, behind) in
     let has : names_key_of at.before at.here ≡ true =
-        names_by at.before (key_in at.here)
-        ∙ ap (λ (o : Option Value). list_any (λ l. is_eq (cell_cmp o (key_in l))) at.before) at.is
-        ∙ name_again key_in at.before again.front again.key at.named again.again in
+    names_by at.before (key_in at.here)
+    ∙ ap (λ (o : Option Value). list_any (λ l. is_eq (cell_cmp o (key_in l))) at.before) at.is
+    ∙ name_again key_in at.before again.front again.key at.named again.again in
     ap Some number ∙ sym (ap (key_twice_in [] 1) at.parts ∙ first_twice [] at.before at.here at.after 1 (name_apart key_in at.before again.front at.named again.apart) has)
 
 whole_front : {A : Type 0} (xs : List A) → take (length xs) xs ≡ xs
