@@ -1,0 +1,10 @@
+pub mod PartLaws
+pub mod Bodies
+pub mod EndLaws
+pub mod Stable
+pub mod Searching
+pub mod Steps
+pub mod Giving
+pub mod RouterWalks
+pub mod RouterTable
+pub mod RouterFinds

@@ -1,0 +1,16 @@
+pub mod Parts
+pub mod Heads
+pub mod Fields
+pub mod Reading
+pub mod Routes
+pub mod Asks
+pub mod Messages
+pub mod Pieces
+pub mod Responses
+pub mod Cuts
+pub mod Plans
+pub mod RouterRows
+pub mod Offsets
+pub mod Waiting
+pub mod First
+pub mod Held
