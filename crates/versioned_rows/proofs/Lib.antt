@@ -1,6 +1,7 @@
 pub mod Applying
 pub mod Lines
 pub mod Looking
+pub mod Ready
 pub mod Stepping
 pub mod Ruling
 pub mod Sums

@@ -15,6 +15,8 @@ mod laws;
 mod mapping;
 mod order;
 mod rows;
+#[cfg(test)]
+mod tests;
 mod weight;
 
 pub use fault::{ApplyFault, MapFault};
