@@ -128,8 +128,10 @@ fn text_value(alloc: Global, bytes: &[u8]) -> Result<Value, AllocError> {
 // The first line whose key comes again, where the keys are copied.
 fn first_copied(alloc: Global, keys: &[Value]) -> Result<Option<u32>, NoMemory> {
     let mut held = Keys::new(alloc);
-    for (i, key) in keys.iter().enumerate() {
-        held.push_copy(i as u32 + 1, key)?;
+    let mut line = 0u32;
+    for key in keys {
+        line = line.saturating_add(1);
+        held.push_copy(line, key)?;
     }
     Ok(held.first_again())
 }
@@ -137,8 +139,10 @@ fn first_copied(alloc: Global, keys: &[Value]) -> Result<Option<u32>, NoMemory> 
 // The same, where the texts stay where they are.
 fn first_borrowed(alloc: Global, keys: &[Value]) -> Result<Option<u32>, NoMemory> {
     let mut held = Keys::new(alloc);
-    for (i, key) in keys.iter().enumerate() {
-        held.push_borrowed(i as u32 + 1, key)?;
+    let mut line = 0u32;
+    for key in keys {
+        line = line.saturating_add(1);
+        held.push_borrowed(line, key)?;
     }
     Ok(held.first_again())
 }
