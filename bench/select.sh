@@ -9,8 +9,8 @@
 # program in place of the one that `rt run` builds.
 #
 # The table has two columns, `sid:int,depth:int`, keys of seven digits and depths from 0 to 999; a
-# tenth of it is selected. It comes with its keys in rising order and in shuffled order, since a
-# tree of keys is much faster to fill in rising order; then once more in shuffled order with a column
+# tenth of it is selected. It comes with its keys in rising order and in shuffled order, since keys
+# that rise are much faster to sort; then once more in shuffled order with a column
 # of texts between the two, `station:text`; and at last with keys that are texts. All programs are run
 # in turn in each round, and the best round of each counts: time is processor time, memory the
 # largest resident set.
