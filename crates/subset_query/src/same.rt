@@ -71,9 +71,11 @@ fn same_data(a: &Normal, b: &Normal) -> bool
 }
 
 impl Normal {
-    /// Whether the two forms give the same bytes on every table of each schema that both fit.
+    /// Whether the two forms are the same data; so whether they give the same bytes on every table of each schema that
+    /// both fit. It takes time linear in their size.
     pub fn same(&self, other: &Normal) -> bool
-        ensures { (s : List schema_column.Column) → IsSettled s self.now → IsSettled s other.now → (IsTrue result ↔ Alike s (formed self.now) (formed other.now)) }
+        ensures data { IsTrue result ↔ (self.now ≡ other.now) }
+        ensures alike { (s : List schema_column.Column) → IsSettled s self.now → IsSettled s other.now → (IsTrue result ↔ Alike s (formed self.now) (formed other.now)) }
     {
         same_data(self, other)
     }
