@@ -26,7 +26,7 @@ labels_of : (ls : List (List ℕ)) → map (λ (i : Item). i.label) (map (λ l. 
 labels_of [] = refl
 labels_of (l ∷ ls) = ap (λ w. l ∷ w) (labels_of ls)
 
-some_items : (a : Normal) (s : List schema_column.Column) → IsSettled s a → (formed a).items ≢ []
+pub some_items : (a : Normal) (s : List schema_column.Column) → IsSettled s a → (formed a).items ≢ []
 some_items (Nothing []) s h e = h refl
 some_items (Nothing (l ∷ ls)) s h e = cc
 some_items (Some sets items order) s h e = h.some_item e
