@@ -1,6 +1,6 @@
 -- In every archive to which a history leads, what is counted is in order.
 use Rattle.std.proofs.Common.{◌≡◌, ℕ, zero, suc, ◌+◌, ◌<◌, ◌≤◌, max, Bool, true, false, cond, List, [], ◌∷◌, ◌++◌, Option, Some, None, Result, length, map, refl, sym, ap, ◌∙◌, subst, arith, length-append}
-use Rattle.std.specs.Prelude.{Ok, option_map, nat_lt, nat_le, ◌&&◌}
+use Rattle.std.specs.Prelude.{Ok, option_map, nat_lt, nat_le, ◌&&◌, if◌then◌else◌}
 use Rattle.std.specs.List.{AllByRecursion, find}
 use Rattle.std.specs.Option.{option_and_then}
 use Rattle.std.proofs.lemmas.List.{length-map, append-nil}
@@ -18,16 +18,18 @@ use Rattle.entry_codec.specs.declared.entry.Entry.{Entry}
 use Rattle.entry_codec.specs.declared.entry.Entry.TheVariants.{Found, Batch, Cite, Migrate}
 use Rattle.entry_codec.specs.Payloads.{record_length}
 use Rattle.archive_model.specs.declared.answers.Refused.{Refused}
+use Rattle.archive_model.specs.declared.answers.Refused.TheVariants.{ResultTooLarge}
 use Rattle.archive_model.specs.declared.answers.Cited.{Cited}
 use Rattle.archive_model.specs.declared.answers.Moved.{Moved}
 use Rattle.archive_model.specs.Archives.{Archive, Version, Minted, ByMigration, ByBatch, columns_of, version_count, kept_in, kept_rows, carried_by}
-use Rattle.archive_model.specs.Limits.{Counted, KeptRows, Versions, Citations, Weight, JournalBytes, limit, quantity, first_over, clock_end}
+use Rattle.archive_model.specs.Limits.{Counted, KeptRows, Versions, Citations, Weight, JournalBytes, limit, quantity, first_over, result_limit, clock_end}
 use Rattle.archive_model.specs.Outcomes.{Outcome, over, stamped}
 use Rattle.archive_model.specs.Batching.{with_batch}
-use Rattle.archive_model.specs.Citing.{with_citation, new_minted}
+use Rattle.archive_model.specs.Citing.{with_citation, new_minted, too_large}
 use Rattle.archive_model.specs.Migrating.{with_migration, IsCarried, AreCarried}
 use Rattle.archive_model.specs.Histories.{Makes, Runs, LeadsTo, found_fault, founded, batch_ask, cite_ask, records_length, journal_length, journal_frame}
 use Rattle.archive_model.specs.ArchiveLaws.{AreNumbered, NeverFall, migrations_in, IsCounted, CountsKeepTheirLimits}
+use Rattle.archive_model.proofs.Lists.{all_push}
 use Rattle.archive_model.proofs.Founded.{founded_stamp}
 use Rattle.archive_model.proofs.FoundingSize.{founding_fits}
 use Rattle.archive_model.proofs.Made.{IsBatched, batched, IsCited, cited, IsMoved, moved}
@@ -48,8 +50,24 @@ length_carried a steps [] (y ∷ ys) h = absurd h
 length_carried a steps (x ∷ xs) [] h = absurd h
 length_carried a steps (x ∷ xs) (y ∷ ys) h = ap suc (length_carried a steps xs ys h.2)
 
+sizes_carried : (a : Archive) (steps : List Step) (most : ℕ) (ms ns : List Minted) → AreCarried a steps ms ns
+    → AllByRecursion (λ (m : Minted). length m.bytes ≤ most) ms → AllByRecursion (λ (m : Minted). length m.bytes ≤ most) ns
+sizes_carried a steps most [] [] h small = tt
+sizes_carried a steps most [] (y ∷ ys) h small = absurd h
+sizes_carried a steps most (x ∷ xs) [] h small = absurd h
+sizes_carried a steps most (x ∷ xs) (y ∷ ys) h small = (subst (λ n. n ≤ most) (ap (λ (w : Minted). length w.bytes) (sym h.1)) small.0, sizes_carried a steps most xs ys h.2 small.1)
+
 not_above : (most n : ℕ) → nat_lt most n ≡ false → n ≤ most
 not_above most n h = grind (arith, nat_tests)
+
+-- where nothing is told of a test, the test failed
+untold : {A : Type 0} (b : Bool) (x : A) → (if b then Some x else None) ≡ None → b ≡ false
+untold true x e = absurd (cc)
+untold false x e = refl
+
+-- bytes that are not too large are few enough
+few_bytes : (bytes : List ℕ) → too_large bytes ≡ None → length bytes ≤ result_limit
+few_bytes bytes e = not_above result_limit (length bytes) (untold (nat_lt result_limit (length bytes)) (ResultTooLarge (length bytes)) e)
 
 not_found : {A : Type 0} (test : A → Bool) (x : A) (xs : List A) → find test (x ∷ xs) ≡ None → (test x ≡ false) × (find test xs ≡ None)
 not_found {A} test x xs e = by (test x) e
@@ -86,6 +104,7 @@ record Counts (a : Archive) : Type 0 where
   clock : a.stamp < clock_end
   schema : a.last.schema.number ≡ 1 + migrations_in a.last a.older
   limits : (c : Counted) → quantity a c ≤ limit c
+  sizes : AllByRecursion (λ (m : Minted). length m.bytes ≤ result_limit) a.minted
 
 number_in : (n : ℕ) (columns : List _) (h : Heading) → ◌≡◌ {A = Result Heading StepFault} (Ok (record { number = n; columns = columns })) (Ok h) → h.number ≡ n
 number_in n columns h e = let same : record { number = n; columns = columns } ≡ h = cc in ap (λ (w : Heading). w.number) (sym same)
@@ -114,6 +133,7 @@ module _ (a : Archive) (h : Counts a) where
     clock = in_range now a.stamp clock_end m.moment h.clock;
     schema = omega (arith, h.schema);
     limits = kept;
+    sizes = h.sizes;
   })
     where
       next : Archive
@@ -137,6 +157,7 @@ module _ (a : Archive) (h : Counts a) where
     clock = in_range now a.stamp clock_end m.moment h.clock;
     schema = h.schema;
     limits = kept;
+    sizes = all_push (λ (k : Minted). length k.bytes ≤ result_limit) a.minted (new_minted a ask now m.answered.bytes m.minting.form) h.sizes (few_bytes m.answered.bytes m.small);
   })
     where
       next : Archive
@@ -160,6 +181,7 @@ module _ (a : Archive) (h : Counts a) where
     clock = in_range now a.stamp clock_end m.moment h.clock;
     schema = omega (arith, h.schema, carried_number a.last.schema m.schema steps m.schema_is);
     limits = kept;
+    sizes = sizes_carried a steps result_limit a.minted m.verdict.minted m.verdict.carried h.sizes;
   })
     where
       next : Archive
@@ -223,6 +245,7 @@ counts_founded f e = record {
   clock = below f.stamp clock_end (founded_stamp f e);
   schema = refl;
   limits = founded_limits f e;
+  sizes = tt;
 }
 
 pub counts_keep_their_limits : CountsKeepTheirLimits
@@ -230,7 +253,7 @@ counts_keep_their_limits [] a h = absurd h
 counts_keep_their_limits (Found f ∷ es) a h =
     let c = counts_runs (founded f) es a (counts_founded f h.0) h.1 in
     let j = journal_runs (founded f) es a h.1 in
-    record { numbers = c.numbers; stamps = c.stamps; last_stamp = c.last_stamp; clock = c.clock; schema = c.schema; limits = c.limits; journal = omega (arith, j) }
+    record { numbers = c.numbers; stamps = c.stamps; last_stamp = c.last_stamp; clock = c.clock; schema = c.schema; limits = c.limits; sizes = c.sizes; journal = omega (arith, j) }
 counts_keep_their_limits (Batch e ∷ es) a h = absurd h
 counts_keep_their_limits (Cite e ∷ es) a h = absurd h
 counts_keep_their_limits (Migrate e ∷ es) a h = absurd h

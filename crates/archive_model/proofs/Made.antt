@@ -61,6 +61,11 @@ pub undecided : {R : Type 0} (a : Archive) (r : Option Refused) (o : Outcome R) 
 undecided a None o e b Rest h m = h
 undecided a (Some x) o e b Rest h m = absurd (not_refused o a x e b h m)
 
+-- and there was no refusal
+pub unrefused : {R : Type 0} (a : Archive) (r : Option Refused) (o : Outcome R) (e : Entry) (b : Archive) (Rest : Type 0) → RefusedOr a r o Rest → MakesBy o e b → r ≡ None
+unrefused a None o e b Rest h m = refl
+unrefused a (Some x) o e b Rest h m = absurd (not_refused o a x e b h m)
+
 -- where there is an entry, the number was not used
 fresh_made : (a : Archive) (ask : BatchAsk) (u : Option (ℕ × List ℕ)) (fresh : Outcome Stored) (e : Entry) (b : Archive) → MakesBy (by_number a ask u fresh) e b → MakesBy fresh e b
 fresh_made a ask None fresh e b m = m
@@ -100,6 +105,7 @@ batched a ask now e b m =
 -- a citation made the archive
 pub record IsCited (a : Archive) (ask : CiteAsk) (now : ℕ) (o : Outcome Cited) (e : Entry) (b : Archive) : Type 0 where
   pub answered : IsAnswered a ask now o
+  pub small : too_large answered.bytes ≡ None
   pub minting : IsMinting a ask now answered.bytes o
   pub entry_is : cite_entry a ask now answered.bytes ≡ e
   pub room : over (with_citation a ask now answered.bytes minting.form) (Citations ∷ JournalBytes ∷ []) ≡ None
@@ -122,7 +128,7 @@ cited a ask now o e b s m =
     let (small, e1) = demanded (not (nat_lt 16777216 (length (payload (cite_entry a ask now bytes))))) _ _ b e0 in
     let (room, e2) = unfaulted (over next (Citations ∷ JournalBytes ∷ [])) _ b e1 in
     let (moment, e3) = demanded (nat_lt now clock_end) (refusals.ClockRange now) (Ok next) b e2 in
-    record { answered = answered; minting = minting; entry_is = made_entry o a (cite_entry a ask now bytes) reply (new_citation a ask now bytes minting.form) e b minting.outcome m; room = room; moment = moment; is = cc }
+    record { answered = answered; small = unrefused a (too_large bytes) o e b _ answered.decided m; minting = minting; entry_is = made_entry o a (cite_entry a ask now bytes) reply (new_citation a ask now bytes minting.form) e b minting.outcome m; room = room; moment = moment; is = cc }
 
 -- a migration made the archive
 pub record IsMoved (a : Archive) (steps : List Step) (now : ℕ) (o : Outcome Moved) (e : Entry) (b : Archive) : Type 0 where

@@ -14,7 +14,7 @@ use Rattle.entry_codec.specs.declared.entry.Entry.TheVariants.{Found, Batch, Cit
 use Rattle.archive_model.specs.declared.answers.Cited.{Cited}
 use Rattle.archive_model.specs.declared.answers.Moved.{Moved}
 use Rattle.archive_model.specs.Archives.{Archive, Version, Minted, Maker, ByFounding, ByBatch, ByMigration, columns_of, version_count, table_in}
-use Rattle.archive_model.specs.Limits.{Counted, limit, quantity, clock_end}
+use Rattle.archive_model.specs.Limits.{Counted, limit, quantity, result_limit, clock_end}
 use Rattle.archive_model.specs.Outcomes.{Outcome}
 use Rattle.archive_model.specs.Citing.{CiteStep}
 use Rattle.migration.specs.Harmless.{printed_of, all_harmless}
@@ -91,6 +91,7 @@ pub record IsCounted (history : List Entry) (a : Archive) : Type 0 where
   pub clock : a.stamp < clock_end
   pub schema : a.last.schema.number ≡ 1 + migrations_in a.last a.older
   pub limits : (c : Counted) → quantity a c ≤ limit c
+  pub sizes : AllByRecursion (λ (m : Minted). length m.bytes ≤ result_limit) a.minted
   pub journal : a.journal ≡ journal_length history
 
 -- so it is in every archive to which a history leads

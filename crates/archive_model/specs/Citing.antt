@@ -17,7 +17,7 @@ use Rattle.archive_model.specs.declared.answers.Cited.{Cited}
 use Rattle.archive_model.specs.declared.answers.Refused.{Refused}
 use Rattle.archive_model.specs.declared.answers.Refused.TheVariants.{Query, BadMeta, ResultTooLarge, EntryTooLarge, ClockRange}
 use Rattle.archive_model.specs.Archives.{Archive, Minted, columns_of, version_count}
-use Rattle.archive_model.specs.Limits.{Citations, JournalBytes, clock_end}
+use Rattle.archive_model.specs.Limits.{Citations, JournalBytes, result_limit, clock_end}
 use Rattle.archive_model.specs.Outcomes.{Outcome, refuses, repeats, makes, RefusedOr, stamped, over}
 
 -- the citation at place n, counted from 0, is the first that hits; those before it miss
@@ -77,7 +77,7 @@ pub record IsMinting (a : Archive) (ask : CiteAsk) (now : ℕ) (bytes : List ℕ
 
 -- the refusal of a result that is too large
 abbrev pub too_large : List ℕ → Option Refused
-too_large bytes = if nat_lt 67108864 (length bytes) then Some (ResultTooLarge (length bytes)) else None
+too_large bytes = if nat_lt result_limit (length bytes) then Some (ResultTooLarge (length bytes)) else None
 
 -- the query gives these bytes on the last table, and they decide
 pub record IsAnswered (a : Archive) (ask : CiteAsk) (now : ℕ) (o : Outcome Cited) : Type 0 where

@@ -39,6 +39,10 @@ quantity a JournalBytes = a.journal
 abbrev pub first_over : Archive → List Counted → Option Counted
 first_over a counts = find (λ c. nat_lt (limit c) (quantity a c)) counts
 
+-- the most bytes that a result may have
+abbrev pub result_limit : ℕ
+result_limit = 67108864
+
 -- the first moment that is no stamp: the year 10000
 abbrev pub clock_end : ℕ
 clock_end = 253402300800

@@ -25,8 +25,8 @@ pub fn citations_resolve()
 {}
 
 /// In every archive to which a history leads, citations are numbered from 1 on, the stamps of versions never fall,
-/// the schema's number is one more than the number of migrations, no count is over its limit, and the journal has the
-/// length of the history.
+/// the schema's number is one more than the number of migrations, no count is over its limit, no citation's bytes are
+/// more than 67,108,864, and the journal has the length of the history.
 pub fn counts_keep_their_limits()
     ensures { CountsKeepTheirLimits }
 {}
