@@ -63,11 +63,11 @@ abbrev pub Sound : Archive → Type 0
 Sound a = IsSound a.last a.older a.minted
 
 module _ (a : Archive) (sound : Sound a) where
-  some_column : 0 < length (columns_of a)
+  pub some_column : 0 < length (columns_of a)
   some_column = (are_well_named (columns_of a) sound.heading).some
 
   -- the last table is a table of the present schema
-  last_fits : IsTrue (is_table (columns_of a) a.last.table)
+  pub last_fits : IsTrue (is_table (columns_of a) a.last.table)
   last_fits =
       let h = sound.tables (version_count a) (omega arith) (omega arith) in
       let same : Some a.last.table ≡ Some h.table = sym (last_table_in a.last a.older) ∙ h.is in

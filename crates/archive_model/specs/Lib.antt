@@ -7,4 +7,5 @@ pub mod Migrating
 pub mod Histories
 pub mod Agreeing
 pub mod ArchiveLaws
+pub mod OutcomeLaws
 pub mod AgreeingLaws

@@ -1,10 +1,22 @@
 // Laws of archives.
 ghost use Rattle.archive_model.specs.ArchiveLaws.{StepsHaveOneOutcome, HistoriesLeadToOneArchive, CitationsResolve, CountsKeepTheirLimits, CitationsDifferBeforeMigrations, HarmlessMigrationsHarmNone, HistoriesGrowByEntries};
+ghost use Rattle.archive_model.specs.OutcomeLaws.{CitationsHaveAnOutcome, MigrationsHaveAnOutcome};
 ghost use Rattle.archive_model.specs.AgreeingLaws.{ExecutingAgainGivesTheBytes, RowsStayInStep, BodiesSpellGoodLines};
 
 /// A citation and a migration have one outcome at most, as a batch has.
 pub fn steps_have_one_outcome()
     ensures { StepsHaveOneOutcome }
+{}
+
+/// In every archive to which a history leads, a citation has an outcome at every moment, where each value in the
+/// conditions of its query is one that a column may hold. So what is said of a citation's outcome is said of something.
+pub fn citations_have_an_outcome()
+    ensures { CitationsHaveAnOutcome }
+{}
+
+/// Likewise a migration has one, whatever its steps are.
+pub fn migrations_have_an_outcome()
+    ensures { MigrationsHaveAnOutcome }
 {}
 
 /// A history leads to one archive at most.

@@ -10,7 +10,7 @@
 //! - `Batching`, `Citing`, `Migrating`: what each call does, its refusals in their order;
 //! - `Histories`: legal histories, and the archive to which one leads;
 //! - `Agreeing`: when kept rows agree with an archive;
-//! - `ArchiveLaws`, `AgreeingLaws`: what is proved of all this.
+//! - `ArchiveLaws`, `OutcomeLaws`, `AgreeingLaws`: what is proved of all this.
 #![tactic(auto)]
 
 mod answers;
@@ -19,7 +19,7 @@ mod laws;
 pub use answers::{Cited, FoundFault, Moved, Refused, Stored};
 pub use laws::{
     a_history_leads_to_one_archive, bodies_spell_good_lines, citations_differ_before_migrations,
-    citations_resolve, counts_keep_their_limits, executing_again_gives_the_bytes,
-    harmless_migrations_harm_none, histories_grow_by_entries, rows_stay_in_step,
-    steps_have_one_outcome,
+    citations_have_an_outcome, citations_resolve, counts_keep_their_limits,
+    executing_again_gives_the_bytes, harmless_migrations_harm_none, histories_grow_by_entries,
+    migrations_have_an_outcome, rows_stay_in_step, steps_have_one_outcome,
 };
