@@ -42,7 +42,7 @@ length_column c =
 at_most : (n m : ℕ) → nat_le n m ≡ true → n ≤ m
 at_most n m h = grind (arith, nat_tests)
 
-named_short : (name : List ℕ) → is_name name ≡ true → length name ≤ 64
+pub named_short : (name : List ℕ) → is_name name ≡ true → length name ≤ 64
 named_short name h = at_most (length name) 64 (and_first _ _ (and_second _ _ h))
 
 length_columns : (cs : List Column) → AllByRecursion (λ c. IsTrue (is_name c.name)) cs → length (flat_map spelled_column cs) ≤ 67 * length cs
@@ -54,10 +54,10 @@ length_columns (c ∷ cs) h =
     let more = length_columns cs h.1 in
     omega arith
 
-told_short : (t : List ℕ) → is_told t ≡ true → length t ≤ 1024
+pub told_short : (t : List ℕ) → is_told t ≡ true → length t ≤ 1024
 told_short t h = at_most (length t) 1024 (and_second _ _ (and_second _ _ h))
 
-prefix_short : (t : List ℕ) → is_prefix t ≡ true → length t ≤ 12
+pub prefix_short : (t : List ℕ) → is_prefix t ≡ true → length t ≤ 12
 prefix_short t h =
     at_most (length t) 12
     (and_second (nat_le 7 (length t)) _ (and_second (list_all is_ascii_digit (drop 3 t)) _ (and_second (starts_with nat_eq t (codes "10.")) _ h)))

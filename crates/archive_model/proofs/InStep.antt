@@ -46,7 +46,7 @@ executing_again history a rows place m leads agree at =
     record { from = r.from; to = subst (λ n. m.issue.version ≤ n) (sym agree.last) r.to; gives = subst (λ t. Gives (formed m.form) t m.bytes) one r.gives }
 
 -- the last table of the rows is that of the archive
-same_last : (a : Archive) (rows : RowHistory) → AgreeRows rows a → last_table rows ≡ a.last.table
+pub same_last : (a : Archive) (rows : RowHistory) → AgreeRows rows a → last_table rows ≡ a.last.table
 same_last a rows agree =
     let there : now_table a (version_count a) ≡ Some (as_of rows (version_count a)) = agree.tables (version_count a) (omega arith) (omega arith) in
     let same : Some (as_of rows (version_count a)) ≡ Some a.last.table = sym there ∙ last_table_in a.last a.older in
