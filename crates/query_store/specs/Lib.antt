@@ -1,0 +1,3 @@
+pub mod Citations
+pub mod Places
+pub mod Picks
