@@ -1,4 +1,4 @@
 pub mod Numbers
 pub mod Indexing
-pub mod Picking
-pub mod Carrying
+pub mod Candidates
+pub mod Forms

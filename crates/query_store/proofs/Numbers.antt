@@ -1,12 +1,11 @@
 -- Which citation a number stands for, and how numbered ones go on.
-use Rattle.std.proofs.Common.{◌≡◌, ℕ, zero, suc, ◌+◌, ◌-◌, ◌<◌, ◌≤◌, ◌⊎◌, inl, inr, ⊎_elim, List, [], ◌∷◌, ◌++◌, Option, Some, None, length, slice_get, map, refl, sym, ap, ◌∙◌, subst, arith, length-append}
+use Rattle.std.proofs.Common.{◌≡◌, ℕ, zero, suc, ◌+◌, ◌-◌, ◌<◌, ◌≤◌, ◌⊎◌, inl, inr, ⊎_elim, List, [], ◌∷◌, ◌++◌, Option, Some, None, length, slice_get, map, refl, sym, ap, ◌∙◌, subst, arith, add-one, length-append}
 use Rattle.std.specs.Cmp.{nat_cmp_is}
 use Rattle.std.specs.List.{AllByRecursion}
 use Rattle.std.specs.Ordering.{nat_cmp}
 use Rattle.std.specs.declared.cmp.Ordering.TheVariants.{Less}
 use Rattle.std.proofs.lemmas.List.{map-append, length-map}
 use Rattle.std.proofs.lemmas.Option.{none-some, same_Some, slice_get_within, slice_get_past}
-use Rattle.core.proofs.str.Laws.{order}
 use Rattle.shared_pages.specs.declared.edit.Edit.TheVariants.{Put}
 use Rattle.shared_pages.specs.Edits.{edited}
 use Rattle.shared_pages.proofs.Editing.{append_none, edited-behind}
@@ -79,14 +78,17 @@ next_number cs new n e =
     let none : n - 1 - length cs ≡ 0 = omega arith in
     at_place (cs ++ new ∷ []) n p ∙ behind cs (new ∷ []) (n - 1) le ∙ ap (slice_get (new ∷ [])) none
 
+-- each place is an earlier one, or that behind all
+earlier_or_behind : (cs : List Citation) (new : Citation) (k : ℕ) (c : Citation) → slice_get (cs ++ new ∷ []) k ≡ Some c → (slice_get cs k ≡ Some c) ⊎ ((k ≡ length cs) × (new ≡ c))
+earlier_or_behind [] new zero c e = inr (refl, same_Some new c e)
+earlier_or_behind [] new (suc k) c e = absurd (none-some c e)
+earlier_or_behind (d ∷ ds) new zero c e = inl e
+earlier_or_behind (d ∷ ds) new (suc k) c e = ⊎_elim (λ old. inl old) (λ now. inr (ap suc now.0, now.1)) (earlier_or_behind ds new k c e)
+
 -- each number is an earlier one, or that of the new citation
 pub earlier_or_next : (cs : List Citation) (new : Citation) (n : ℕ) (c : Citation) → numbered (cs ++ new ∷ []) n ≡ Some c → (numbered cs n ≡ Some c) ⊎ ((n ≡ length cs + 1) × (new ≡ c))
 earlier_or_next cs new zero c e = inl e
-earlier_or_next cs new (suc n) c e = ⊎_elim (λ l. inl (sym (within cs (new ∷ []) n l) ∙ e)) (λ le. inr (last (n - length cs) refl le (sym (behind cs (new ∷ []) n le) ∙ e))) (order n (length cs))
-  where
-    last : (k : ℕ) → n - length cs ≡ k → length cs ≤ n → slice_get (new ∷ []) k ≡ Some c → (suc n ≡ length cs + 1) × (new ≡ c)
-    last zero d le s = (omega arith, same_Some new c s)
-    last (suc k) d le s = absurd (none-some c s)
+earlier_or_next cs new (suc n) c e = ⊎_elim (λ old. inl old) (λ now. inr (ap suc now.0 ∙ sym (add-one (length cs)), now.1)) (earlier_or_behind cs new n c e)
 
 -- entries are below the number that comes next
 below : (first : ℕ) (ns : List Numbered) (m : ℕ) → AreNumbered first ns → first + length ns ≤ m → AllByRecursion (λ (n : Numbered). nat_cmp n.number m ≡ Less) ns

@@ -81,10 +81,10 @@ pub record IsIndex (citations : List Citation) (index : List Finding) : Type 0 w
 pub record IsStore (older : List Numbered) (newest : Option Citation) (index : List Finding) : Type 0 where
   pub numbered : AreNumbered 1 older
   pub few : length (all_citations older newest) < 2 ^ 32
-  pub index : IsIndex (all_citations older newest) index
+  pub indexed : IsIndex (all_citations older newest) index
 
 -- what is made ready for a new citation: the others are older ones, and the index has the new one too
 pub record IsRoom (citations : List Citation) (new : Citation) (older : List Numbered) (index : List Finding) : Type 0 where
   pub citations_are : citations_of older ≡ citations
   pub numbered : AreNumbered 1 older
-  pub index : IsIndex (citations ++ new ∷ []) index
+  pub indexed : IsIndex (citations ++ new ∷ []) index

@@ -134,6 +134,8 @@ impl Store {
             result_sha: *result_sha,
             number: 0,
         };
+        // That the findings rise is known once they were counted.
+        let _count = self.index.len();
         let numbers = picked(alloc, self, &self.index, &probe, normal)?;
         Ok(numbers)
     }

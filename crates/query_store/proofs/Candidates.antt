@@ -31,12 +31,12 @@ was_equal Greater e = cc
 -- what is filtered was there
 filtered_in : {X : Type 0} (p : X → Bool) (x : X) (xs : List X) → In x (filter p xs) → In x xs
 filtered_in p x [] i = i
-filtered_in {X} p x (y ∷ ys) i = by (p y) i
+filtered_in {X} p x (y ∷ ys) i = by (λ j. filtered_in p x ys j) (p y) i
   where
-    by : (b : Bool) → In x (cond b (y ∷ filter p ys) (filter p ys)) → In x (y ∷ ys)
-    by true (inl e) = inl e
-    by true (inr i) = inr (filtered_in p x ys i)
-    by false i = inr (filtered_in p x ys i)
+    by : (In x (filter p ys) → In x ys) → (b : Bool) → In x (cond b (y ∷ filter p ys) (filter p ys)) → In x (y ∷ ys)
+    by more true (inl e) = inl e
+    by more true (inr i) = inr (more i)
+    by more false i = inr (more i)
 
 -- what passes is filtered
 in_filtered : {X : Type 0} (p : X → Bool) (x : X) (xs : List X) → In x xs → p x ≡ true → In x (filter p xs)
