@@ -1,5 +1,5 @@
 -- What is picked of an index are the candidates, rising.
-use Rattle.std.proofs.Common.{◌≡◌, ℕ, zero, suc, ◌<◌, Bool, true, false, cond, inl, inr, List, [], ◌∷◌, Some, length, filter, slice_index_or, refl, sym, ap, ◌∙◌, subst, arith}
+use Rattle.std.proofs.Common.{◌≡◌, ℕ, zero, suc, ◌<◌, Bool, true, false, cond, inl, inr, List, [], ◌∷◌, ◌++◌, Some, length, filter, append_assoc, slice_index_or, refl, sym, ap, ◌∙◌, subst, arith}
 use Rattle.std.specs.Cmp.{nat_cmp_is}
 use Rattle.std.specs.List.{AllByRecursion, Contains}
 use Rattle.std.specs.List.Sorted.{IsStrictlySortedBy}
@@ -16,6 +16,7 @@ use Rattle.cite_schema.proofs.Rising.{In, all_at}
 use Rattle.subset_query.specs.declared.form.Normal.{Normal}
 use Rattle.subset_query.specs.Printed.{printed_form}
 use Rattle.shared_pages.specs.Probes.{all_from}
+use Rattle.shared_pages.proofs.Editing.{append_none}
 use Rattle.shared_pages.proofs.Order.{turned, itself}
 use Rattle.query_store.specs.declared.citation.Citation.{Citation}
 use Rattle.query_store.specs.declared.finding.Finding.{Finding}
@@ -183,3 +184,26 @@ module _ (cs : List Citation) (index : List Finding) (form : Normal) (fingerprin
     where
       sorted : IsStrictlySortedBy finding_cmp (all_from finding_cmp probe index)
       sorted = IsStrictlySortedBy-filter finding_cmp (λ f. is_ge (finding_cmp f probe)) index s
+
+-- whatever is picked of the findings that are left, comes behind the numbers that were picked so far
+abbrev pub Leads : (ℕ → Type 0) → Finding → List Finding → List Finding → List ℕ → Type 0
+Leads passes probe all rest done = (ns : List ℕ) → Picks passes probe rest ns → Picks passes probe all (done ++ ns)
+
+module _ (passes : ℕ → Type 0) (probe : Finding) (all rest : List Finding) (done : List ℕ) (h : Leads passes probe all rest done) where
+  -- the next finding is picked
+  pub picks_one : (f : Finding) (more : List Finding) (grown : List ℕ) → rest ≡ f ∷ more → is_eq (digest_cmp f probe) ≡ true → passes f.number → grown ≡ done ++ f.number ∷ [] → Leads passes probe all more grown
+  picks_one f more grown e same ok g = λ ns p.
+      subst (λ l. Picks passes probe all l) (sym (append_assoc done (f.number ∷ []) ns) ∙ ap (λ d. d ++ ns) (sym g))
+      (h (f.number ∷ ns) (subst (λ fs. Picks passes probe fs (f.number ∷ ns)) (sym e) (Picked f more ns same ok p)))
+
+  -- the next finding is left
+  pub leaves_one : (f : Finding) (more : List Finding) → rest ≡ f ∷ more → is_eq (digest_cmp f probe) ≡ true → (passes f.number → ⊥) → Leads passes probe all more done
+  leaves_one f more e same other = λ ns p. h ns (subst (λ fs. Picks passes probe fs ns) (sym e) (Left f more ns same other p))
+
+  -- the next finding has other digests
+  pub ends_before : (f : Finding) (more : List Finding) → rest ≡ f ∷ more → is_eq (digest_cmp f probe) ≡ false → Picks passes probe all done
+  ends_before f more e other = subst (λ l. Picks passes probe all l) (append_none done) (h [] (subst (λ fs. Picks passes probe fs []) (sym e) (Past f more other)))
+
+  -- no finding is left
+  pub ends_all : rest ≡ [] → Picks passes probe all done
+  ends_all e = subst (λ l. Picks passes probe all l) (append_none done) (h [] (subst (λ fs. Picks passes probe fs []) (sym e) None_left))

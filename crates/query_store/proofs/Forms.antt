@@ -1,5 +1,5 @@
 -- Citations that get other forms, one after the other.
-use Rattle.std.proofs.Common.{◌≡◌, ℕ, zero, suc, ◌+◌, ◌<◌, List, [], ◌∷◌, ◌++◌, Some, None, length, slice_get, drop, refl, sym, ap, ◌∙◌, subst, arith, add-one, append_assoc, length-append}
+use Rattle.std.proofs.Common.{◌≡◌, ℕ, zero, suc, ◌+◌, ◌<◌, List, [], ◌∷◌, ◌++◌, Some, None, length, slice_get, drop, refl, sym, ap, ◌∙◌, arith, add-one, append_assoc, length-append}
 use Rattle.std.proofs.lemmas.Option.{slice_get_within, get_or_from_slice_get, none-some}
 use Rattle.subset_query.specs.declared.form.Normal.{Normal}
 use Rattle.shared_pages.proofs.Editing.{append_none}

@@ -1,11 +1,11 @@
 -- Which citation a number stands for, and how numbered ones go on.
-use Rattle.std.proofs.Common.{◌≡◌, ℕ, zero, suc, ◌+◌, ◌-◌, ◌<◌, ◌≤◌, ◌⊎◌, inl, inr, ⊎_elim, List, [], ◌∷◌, ◌++◌, Option, Some, None, length, slice_get, map, refl, sym, ap, ◌∙◌, subst, arith, add-one, length-append}
+use Rattle.std.proofs.Common.{◌≡◌, ℕ, zero, suc, ◌+◌, ◌-◌, ◌<◌, ◌≤◌, ◌⊎◌, inl, inr, ⊎_elim, List, [], ◌∷◌, ◌++◌, Option, Some, None, length, slice_get, refl, sym, ap, ◌∙◌, subst, arith, add-one}
 use Rattle.std.specs.Cmp.{nat_cmp_is}
 use Rattle.std.specs.List.{AllByRecursion}
 use Rattle.std.specs.Ordering.{nat_cmp}
 use Rattle.std.specs.declared.cmp.Ordering.TheVariants.{Less}
-use Rattle.std.proofs.lemmas.List.{map-append, length-map}
-use Rattle.std.proofs.lemmas.Option.{none-some, same_Some, slice_get_within, slice_get_past}
+use Rattle.std.proofs.lemmas.List.{map-append}
+use Rattle.std.proofs.lemmas.Option.{none-some, same_Some, slice_get_within}
 use Rattle.shared_pages.specs.declared.edit.Edit.TheVariants.{Put}
 use Rattle.shared_pages.specs.Edits.{edited}
 use Rattle.shared_pages.proofs.Editing.{append_none, edited-behind}
@@ -23,47 +23,10 @@ at_place cs (suc n) l = ap (slice_get cs) (before n)
     before : (n : ℕ) → n ≡ suc n - 1
     before n = omega arith
 
--- the number of a citation is not 0
-pub number_first : (cs : List Citation) (n : ℕ) (c : Citation) → numbered cs n ≡ Some c → 0 < n
-number_first cs zero c e = absurd (none-some c e)
-number_first cs (suc n) c e = omega arith
-
--- it is not over the count
+-- no citation's number is over the count
 pub number_last : (cs : List Citation) (n : ℕ) (c : Citation) → numbered cs n ≡ Some c → n ≤ length cs
 number_last cs zero c e = omega arith
 number_last cs (suc n) c e = let l : n < length cs = slice_get_within cs n c e in omega arith
-
--- at most one citation is the newest
-few_listed : (o : Option Citation) → length (listed o) ≤ 1
-few_listed None = omega arith
-few_listed (Some c) = omega arith
-
-first_listed : (o : Option Citation) → o ≡ slice_get (listed o) 0
-first_listed None = refl
-first_listed (Some c) = refl
-
--- a number up to the number of the older citations is that of one of them
-pub in_older : (older : List Citation) (newest : Option Citation) (n : ℕ) → 0 < n → n - 1 < length older → slice_get older (n - 1) ≡ numbered (older ++ listed newest) n
-in_older older newest n p l = sym (within older (listed newest) (n - 1) l) ∙ sym (at_place (older ++ listed newest) n p)
-
--- the next one is that of the newest, if there is one
-pub in_newest : (older : List Citation) (newest : Option Citation) (n : ℕ) → 0 < n → n - 1 ≡ length older → newest ≡ numbered (older ++ listed newest) n
-in_newest older newest n p l =
-    let none : 0 ≡ n - 1 - length older = omega arith in
-    let le : length older ≤ n - 1 = omega arith in
-    first_listed newest ∙ ap (slice_get (listed newest)) none ∙ sym (behind older (listed newest) (n - 1) le) ∙ sym (at_place (older ++ listed newest) n p)
-
--- no higher number is that of a citation
-pub above_newest : (older : List Citation) (newest : Option Citation) (n : ℕ) → 0 < n → length older < n - 1 → None ≡ numbered (older ++ listed newest) n
-above_newest older newest n p l =
-    let few = few_listed newest in
-    let all = length-append older (listed newest) in
-    let past : length (older ++ listed newest) ≤ n - 1 = omega arith in
-    sym (slice_get_past (older ++ listed newest) (n - 1) past) ∙ sym (at_place (older ++ listed newest) n p)
-
--- how many citations there are
-pub counted : (older : List Numbered) (newest : Option Citation) → length (all_citations older newest) ≡ length older + length (listed newest)
-counted older newest = length-append (citations_of older) (listed newest) ∙ ap (λ n. n + length (listed newest)) (length-map older (λ (n : Numbered). n.citation))
 
 -- a citation keeps its number where one more comes
 pub kept_number : (cs : List Citation) (new : Citation) (n : ℕ) (c : Citation) → numbered cs n ≡ Some c → numbered (cs ++ new ∷ []) n ≡ Some c

@@ -1,5 +1,5 @@
 -- Which findings of an index are picked: from the first with both digests on, those whose citation has the form.
-use Rattle.std.specs.Prelude.{◌≡◌, ℕ, true, false, List, [], ◌∷◌, Option, Some}
+use Rattle.std.specs.Prelude.{◌≡◌, ℕ, true, false, List, [], ◌∷◌, Some}
 use Rattle.std.specs.Ordering.{is_eq}
 use Rattle.subset_query.specs.declared.form.Normal.{Normal}
 use Rattle.query_store.specs.declared.citation.Citation.{Citation}
