@@ -141,7 +141,7 @@ impl Store {
     }
 
     /// The store whose citations have these forms, one after the other, and the digests of these; all else stays. For n
-    /// citations it takes n times what an addition takes, prints each form, and copies what each citation says.
+    /// citations it takes n times what an addition takes, prints each form twice, and copies what each citation says.
     pub fn carried(&self, alloc: Global, normals: List<Normal>) -> Result<Store, NoMemory>
         requires { length normals ≡ length self.now }
         ensures { IfOk result (λ store. store ≡ with_forms self.now normals) }
