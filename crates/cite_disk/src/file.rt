@@ -1,5 +1,5 @@
 // A disk that is a file of the system. It tells nothing of its content: the trusted edge.
-ghost use Rattle.std.specs.Prelude.{◌≤◌, [], length, IfOk};
+ghost use Rattle.std.specs.Prelude.{◌≡◌, ◌≤◌, [], length, IfOk, None, false};
 
 use crate::disk::Disk;
 use cite_ports::Failed;
@@ -92,7 +92,11 @@ impl<R: Files + Drop> Handle<R> {
 
 impl<R: Files + Drop> FileDisk<R> {
     /// The file at a path. It is not opened yet, so this takes no memory and cannot fail.
-    pub fn make(rt: R, path: String) -> FileDisk<R> {
+    pub fn make(rt: R, path: String) -> FileDisk<R>
+        ensures path { result.handle.path ≡ path }
+        ensures unopened { result.handle.file ≡ None }
+        ensures fresh { (result.lost ≡ false) × (result.faults ≡ 0) }
+    {
         FileDisk {
             handle: Handle {
                 rt,

@@ -195,6 +195,7 @@ impl Disk for MemoryDisk {
 
         ensures fails { IsErr result ↔ IsToFail self.old.plan }
         ensures plan { IsPlanned self.old.plan self.new.plan }
+        ensures no_fault { OnOk result (self.new.plan.faults ≡ self.old.plan.faults) }
     {
         if self.plan.call() {
             return Err(Failed);
@@ -213,6 +214,7 @@ impl Disk for MemoryDisk {
 
         ensures fails { IsErr result ↔ IsToFail self.old.plan }
         ensures plan { IsPlanned self.old.plan self.new.plan }
+        ensures no_fault { OnOk result (self.new.plan.faults ≡ self.old.plan.faults) }
     {
         if self.plan.call() {
             return Err(Failed);
@@ -235,6 +237,7 @@ impl Disk for MemoryDisk {
         ensures fails { IsToFail self.old.plan → IsErr result }
         ensures put { Holds self.old.bytes.items at bytes.now self.new.bytes.items ⊎ ((self.new.bytes ≡ self.old.bytes) × (self.new.epoch ≡ self.old.epoch)) }
         ensures plan { IsPlanned self.old.plan self.new.plan }
+        ensures no_fault { OnOk result (self.new.plan.faults ≡ self.old.plan.faults) }
     {
         let fails = self.plan.call();
         let from = at as usize;
@@ -264,6 +267,7 @@ impl Disk for MemoryDisk {
         ensures fails { IsToFail self.old.plan → IsErr result }
         ensures kept { OnErr result (self.new.epoch ≡ self.old.epoch) }
         ensures plan { IsPlanned self.old.plan self.new.plan }
+        ensures no_fault { OnOk result (self.new.plan.faults ≡ self.old.plan.faults) }
     {
         if self.plan.call() {
             return Err(Failed);
