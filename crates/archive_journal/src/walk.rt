@@ -136,6 +136,7 @@ impl Walk {
     /// `NotArchive` exactly where the disk doesn't begin with the header and an open gate; `DiskFailed` where the disk
     /// failed.
     pub fn begin<D: Disk>(disk: &mut D) -> Result<Walk, JournalFault>
+        ensures open_gate { IfOk result (λ w. (w.at ≡ 16) × (w.gate ≡ 1)) }
         ensures ok { IfOk result (λ w. D.honest → IsAt (D.seen disk.new) [] w.at w.gate) }
         ensures durable { OnOk result (D.honest → Only (D.seen disk.new) (D.images disk.new)) }
         ensures not_archive { IsErrOf result NotArchive → D.honest → IsNoArchive (D.seen disk.old) }
