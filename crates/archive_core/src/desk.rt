@@ -7,7 +7,7 @@ ghost use Rattle.archive_model.specs.Archives.{Archive};
 ghost use Rattle.archive_model.specs.Batching.{batch_step};
 ghost use Rattle.archive_model.specs.Citing.{CiteStep};
 ghost use Rattle.archive_model.specs.Histories.{MayBeAsked};
-ghost use Rattle.archive_core.specs.Standing.{StandsFor};
+ghost use Rattle.archive_core.specs.Standing.{PartsStand, StandsFor};
 ghost use Rattle.archive_core.specs.Answering.{Answers, Leaves, Founds, CanBeTaken, IsTaken};
 
 use crate::plan::Planned;
@@ -100,9 +100,10 @@ impl Desk {
         }
     }
 
-    /// What readers see now. It takes no memory.
+    /// What readers see now; its two parts stand for some legal history. It takes no memory.
     pub fn snapshot(&self) -> &Arc<Snapshot>
-        ensures { arc_value result.now ≡ arc_value self.now.present.snapshot }
+        ensures value { arc_value result.now ≡ arc_value self.now.present.snapshot }
+        ensures stands { PartsStand (arc_value result.now).rows (arc_value result.now).store }
     {
         &self.present.snapshot
     }
