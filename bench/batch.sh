@@ -12,37 +12,11 @@ set -euo pipefail
 
 times=${1:-50}
 runs=${2:-5}
-here=$(cd "$(dirname "${BASH_SOURCE[0]}")" && pwd)
-work=$(mktemp -d)
-trap 'rm -rf "$work"' EXIT
+. "$(dirname "${BASH_SOURCE[0]}")/measure.sh"
 
-command -v rustc > /dev/null || { echo "batch.sh: rustc is missing" >&2; exit 1; }
-command time --version > /dev/null 2>&1 || { echo "batch.sh: GNU time is missing" >&2; exit 1; }
-rustc --edition 2021 -O "$here/plain_batch.rs" -o "$work/plain_batch"
-
+plain_program plain_batch
 program=${BATCH_PROGRAM:-}
-if [ -z "$program" ]; then
-    git clone -q "$here/.." "$work/clone"
-    crate=$work/clone/crates/bench_batch
-    mkdir -p "$crate/src"
-    cp "$here/batch_main.txt" "$crate/src/main.rt"
-    echo 'bench_batch: cite_schema batches' >> "$work/clone/crates.txt"
-    (cd "$crate" && rt run > "$work/build.log" 2>&1 < /dev/null) || true
-    program=$crate/out/bench_batch
-    [ -x "$program" ] || { tail -n 20 "$work/build.log" >&2; exit 1; }
-fi
-
-# Runs a program once, and adds its seconds to those of a name.
-measure() { # name program word..
-    local name=$1
-    shift
-    command time -f '%U %S' -o "$work/figures" "$@" > "$work/$name.out"
-    awk '{ print $1 + $2 }' "$work/figures" >> "$work/$name.runs"
-}
-
-best() { # name
-    sort -n "$work/$1.runs" | head -n 1
-}
+[ -n "$program" ] || own_program bench_batch batch_main.txt 'cite_schema batches'
 
 for ((run = 0; run < runs; run++)); do
     measure ours "$program" "$times"

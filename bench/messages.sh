@@ -15,38 +15,11 @@ set -euo pipefail
 
 requests=${1:-100000}
 runs=${2:-5}
-here=$(cd "$(dirname "${BASH_SOURCE[0]}")" && pwd)
-work=$(mktemp -d)
-trap 'rm -rf "$work"' EXIT
+. "$(dirname "${BASH_SOURCE[0]}")/measure.sh"
 
-command -v rustc > /dev/null || { echo "messages.sh: rustc is missing" >&2; exit 1; }
-command time --version > /dev/null 2>&1 || { echo "messages.sh: GNU time is missing" >&2; exit 1; }
-rustc --edition 2021 -O "$here/plain_messages.rs" -o "$work/plain_messages"
-
+plain_program plain_messages
 program=${MESSAGES_PROGRAM:-}
-if [ -z "$program" ]; then
-    git clone -q "$here/.." "$work/clone"
-    crate=$work/clone/crates/bench_messages
-    mkdir -p "$crate/src"
-    cp "$here/messages_main.txt" "$crate/src/main.rt"
-    echo 'bench_messages: cite_schema cite_http' >> "$work/clone/crates.txt"
-    # The program stays in out/ whatever it answers to no words.
-    (cd "$crate" && rt run > "$work/build.log" 2>&1 < /dev/null) || true
-    program=$crate/out/bench_messages
-    [ -x "$program" ] || { tail -n 20 "$work/build.log" >&2; exit 1; }
-fi
-
-# Runs a program once, and adds its seconds to those of a name.
-measure() { # name program word..
-    local name=$1
-    shift
-    command time -f '%U %S' -o "$work/figures" "$@" > "$work/$name.out"
-    awk '{ print $1 + $2 }' "$work/figures" >> "$work/$name.runs"
-}
-
-best() { # name
-    sort -n "$work/$1.runs" | head -n 1
-}
+[ -n "$program" ] || own_program bench_messages messages_main.txt 'cite_schema cite_http'
 
 for ((run = 0; run < runs; run++)); do
     measure ours "$program" gets "$requests" 65536
