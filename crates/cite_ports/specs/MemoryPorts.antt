@@ -1,5 +1,5 @@
--- What the source and the sink in memory are, and what a call makes of them.
-use Rattle.std.specs.Prelude.{ℕ, List, [], ◌++◌, drop}
+-- What the source, the sink and the clock in memory are, and what a call makes of them.
+use Rattle.std.specs.Prelude.{ℕ, ◌-◌, List, [], ◌∷◌, ◌++◌, length, min, drop, get_or}
 use Rattle.cite_ports.specs.Ports.{next_count}
 
 -- a source in memory: the bytes that are left, the most that a call gives, the numbers of the calls that
@@ -46,3 +46,20 @@ sink_that_took piece s =
 abbrev pub sink_that_failed : SinkState → SinkState
 sink_that_failed s =
     record { bytes = s.bytes; fails = s.fails; calls = next_count s.calls; faults = next_count s.faults }
+
+-- a clock in memory: the moments that it gives, and those that it gave so far
+pub record ClockState : Type 0 where
+  pub moments : List ℕ
+  pub given : List ℕ
+
+-- a clock as it is made: it gave nothing
+abbrev pub new_clock : List ℕ → ClockState
+new_clock moments = record { moments = moments; given = [] }
+
+-- the moment that comes next: the one after those that were given, or the last one where none is left
+abbrev pub next_moment : ClockState → ℕ
+next_moment c = get_or c.moments (min (length c.given) (length c.moments - 1)) 0
+
+-- the clock after a call that gave this moment
+abbrev pub clock_that_gave : ℕ → ClockState → ClockState
+clock_that_gave moment c = record { moments = c.moments; given = c.given ++ moment ∷ [] }

@@ -1,6 +1,6 @@
--- What a call of a source or a sink does. The content is `None` where it is not told, and then nothing is said of it, as
--- std says nothing of it at its own readers and writers.
-use Rattle.std.specs.Prelude.{◌≡◌, ◌≤◌, ◌+◌, ◌-◌, ◌^◌, ◌↔◌, ℕ, List, [], Option, Some, None, min, take, ⊤}
+-- What a call of a source, a sink or a clock does. The content is `None` where it is not told, and then nothing is said of
+-- it, as std says nothing of it at its own readers and writers.
+use Rattle.std.specs.Prelude.{◌≡◌, ◌≤◌, ◌+◌, ◌-◌, ◌^◌, ◌↔◌, ℕ, List, [], ◌∷◌, Option, Some, None, min, take, ⊤}
 use Rattle.std.specs.Io.KnownBytes.{Appends, Consumes}
 
 -- the number after this one, where a `u64` that counts stands still at its last value
@@ -23,3 +23,7 @@ EndsExactly n (Some left) = (n ≡ 0) ↔ (left ≡ [])
 -- what is written now is what was written before, and then this piece
 abbrev pub Holds : List ℕ → Option (List ℕ) → Option (List ℕ) → Type 0
 Holds piece old new = Appends old new piece
+
+-- the moments given now are those given before, and then this one
+abbrev pub Shows : ℕ → Option (List ℕ) → Option (List ℕ) → Type 0
+Shows moment old new = Appends old new (moment ∷ [])

@@ -1,7 +1,7 @@
-// The calls of the source and the sink in memory, through the traits.
+// The calls of the source, the sink and the clock in memory, through the traits.
 ghost use Rattle.std.specs.Prelude.{◌<◌, length};
 
-use crate::{Failed, MemorySink, MemorySource, NoMemory, Sink, Source};
+use crate::{Clock, Failed, MemoryClock, MemorySink, MemorySource, NoMemory, Sink, Source};
 use std::alloc::AllocError;
 use std::test::Fail;
 
@@ -78,5 +78,19 @@ fn what_a_source_gives_goes_into_a_sink(rt: HostRuntime) -> Result<(), Fail> {
     assert_eq!(rt; carry(&mut source, &mut sink, 9), Ok(true));
     assert_eq!(rt; sink.bytes(), b"a table, line by line".as_slice());
     assert_eq!(rt; NoMemory::from(AllocError), NoMemory);
+    Ok(())
+}
+
+fn two_moments<C: Clock>(clock: &mut C) -> (u64, u64) {
+    (clock.now(), clock.now())
+}
+
+#[test]
+fn a_clock_gives_its_moments_and_then_the_last_one(rt: HostRuntime) -> Result<(), Fail> {
+    let moments = Vec::from_array(rt.alloc(), [9, 4, 7])?;
+    let mut clock = sent(MemoryClock::make(moments)?);
+    assert_eq!(rt; two_moments(&mut clock), (9, 4));
+    assert_eq!(rt; two_moments(&mut clock), (7, 7));
+    assert_eq!(rt; clock.now(), 7);
     Ok(())
 }
