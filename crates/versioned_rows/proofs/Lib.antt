@@ -9,3 +9,4 @@ pub mod Tabled
 pub mod Tables
 pub mod Turning
 pub mod Versions
+pub mod Presence

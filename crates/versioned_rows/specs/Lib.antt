@@ -6,3 +6,4 @@ pub mod Nexts
 pub mod Keeping
 pub mod Parts
 pub mod Turns
+pub mod Presence

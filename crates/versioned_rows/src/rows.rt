@@ -1,13 +1,14 @@
 // The rows of all versions.
 ghost use Rattle.std.specs.Prelude.{Ok, Some, List as Listed, Option as Maybe, slice_get, ◌≡◌, ◌<◌, ◌≤◌, ◌+◌, ◌-◌, ◌^◌, ◌&&◌, nat_le, [], ◌++◌, length, IfOk, IfErr, IsTrue};
 ghost use Rattle.std.specs.Fn.{FnReturnsAt};
-ghost use Rattle.std.specs.List.{AllZip, Contains};
+ghost use Rattle.std.specs.List.{AllByRecursion, AllZip, Contains};
 ghost use Rattle.cite_schema.specs.Lines.{brought};
 ghost use Rattle.cite_schema.specs.Tables.{is_keyed};
 ghost use Rattle.cite_schema.specs.declared.value.Value.{Value as Cell};
 ghost use Rattle.versioned_rows.specs.ChangeLaws.{NameOwnKeys, HaveKeys};
 ghost use Rattle.versioned_rows.specs.Weights.{rows_weight};
 ghost use Rattle.versioned_rows.specs.Histories.{rows_of, as_of, last_table, is_in_version};
+ghost use Rattle.versioned_rows.specs.Presence.{WasInTable};
 ghost use Rattle.versioned_rows.specs.Nexts.{IsNextByLines, TellsLine, Turns, IsNextByCalls, TellsFirstLost, FollowsRule, IsNextByRule, TellsLost};
 
 use crate::edits::{counted, edits_for, weighed};
@@ -139,6 +140,13 @@ impl Rows {
             weight: turned.weight,
             alive: self.alive,
         })
+    }
+
+    /// A law: each kept row is in the table of the version that brought it. It takes no memory, and no time.
+    pub fn known_rows(&self)
+        ensures { AllByRecursion (WasInTable self.now) (rows_of self.now) }
+    {
+        let _kept = &self.kept;
     }
 
     /// The number of the last version. It takes no memory.
