@@ -158,6 +158,13 @@ impl Walk {
         Ok(Walk { at: 16, gate: 1 })
     }
 
+    /// The place of the next gate, from the journal's beginning on. It takes no memory.
+    pub fn place(&self) -> u64
+        ensures { result ≡ self.now.at }
+    {
+        self.at
+    }
+
     /// The payload of the next open record, or `None` exactly at a gate that isn't open. It reads the record once, and
     /// its length field is held against the limit and the bytes that are there before memory is taken: memory for one
     /// record, and time in its length.
@@ -175,7 +182,7 @@ impl Walk {
         ensures small { IfOk result (λ o. IfSome o (λ p. length p ≤ 16777216)) }
         ensures next { IfOk result (λ o. IfSome o (λ p. D.honest → (ps : List (List ℕ)) → IsAt (D.seen disk.old) ps self.old.at self.old.gate
             → IsAt (D.seen disk.new) (ps ++ p ∷ []) self.new.at self.new.gate)) }
-        ensures further { IfOk result (λ o. IfSome o (λ p. self.old.at + 37 ≤ self.new.at)) }
+        ensures further { IfOk result (λ o. IfSome o (λ p. self.new.at ≡ self.old.at + length p + 37)) }
         ensures end { IfOk result (λ o. IfNone o (self.old.gate ≢ 1)) }
         ensures stands { IfOk result (λ o. IfNone o (D.honest → (ps : List (List ℕ)) → IsAt (D.seen disk.old) ps self.old.at self.old.gate → Stands (D.seen disk.new) ps)) }
         ensures damaged { IfErr result (λ e. (at : ℕ) → e ≡ Damaged at → (at ≡ self.old.at) × (self.old.gate ≡ 1) × (D.honest → (p : List ℕ) → IsWhole (D.seen disk.old) at p → ⊥)) }
