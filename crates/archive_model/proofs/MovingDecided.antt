@@ -65,7 +65,7 @@ of_some : {X : Type 0} (x y : X) → Some x ≡ Some y → x ≡ y
 of_some x y e = cc
 
 -- the form, the table and the bytes of a citation that stays are no others
-stays_alone : (a : Archive) (steps : List Step) (m : Minted) (form : Normal) (old t : List (List Value)) → Carries (columns_of a) steps m.form form → now_table a m.issue.version ≡ Some old
+pub stays_alone : (a : Archive) (steps : List Step) (m : Minted) (form : Normal) (old t : List (List Value)) → Carries (columns_of a) steps m.form form → now_table a m.issue.version ≡ Some old
     → carry_rows (columns_of a) steps old ≡ Some t → (other : Normal) → IsCarried a steps m other → Gives (formed form) t m.bytes
 stays_alone a steps m form old t carries is rows other c =
     let same_form : other ≡ form = carried_to_one (columns_of a) steps m.form other form c.carries carries in

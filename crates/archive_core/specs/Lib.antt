@@ -1,9 +1,0 @@
-pub mod Answering
-pub mod Batches
-pub mod Citations
-pub mod Executing
-pub mod Founding
-pub mod Limiting
-pub mod Planning
-pub mod Standing
-pub mod Used

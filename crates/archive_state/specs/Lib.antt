@@ -1,0 +1,10 @@
+pub mod Batches
+pub mod Citations
+pub mod Executing
+pub mod Following
+pub mod Founding
+pub mod Limiting
+pub mod Migrations
+pub mod Planning
+pub mod Standing
+pub mod Used
