@@ -1,0 +1,10 @@
+pub mod Appending
+pub mod EntrySizes
+pub mod Founded
+pub mod Lengths
+pub mod NoDisk
+pub mod OneHistory
+pub mod Opened
+pub mod Planned
+pub mod Walking
+pub mod Written

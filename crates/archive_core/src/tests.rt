@@ -1,0 +1,12 @@
+// Sessions at a desk, over a table of a key and two numbers, on a disk in memory.
+//
+// Bodies of batches are written without their header: `+,1,5,0` puts a row.
+mod asks;
+mod citing;
+mod crashes;
+mod kept;
+mod limits;
+mod migrating;
+mod mixed;
+mod refusals;
+mod sessions;
