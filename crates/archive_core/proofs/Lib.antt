@@ -6,5 +6,6 @@ pub mod NoDisk
 pub mod OneHistory
 pub mod Opened
 pub mod Planned
+pub mod Spoilt
 pub mod Walking
 pub mod Written

@@ -84,7 +84,7 @@ module _ (honest : Type 0) where
 
     -- no record stands whole behind the gate
     pub spoilt_record : ((p : List ℕ) → IsWhole b walk.at p → ⊥) → IsSpoilt b walk.at
-    spoilt_record broken = record { history = w.history; begun = begun kept w.history w.follows; here = open_here; broken = λ e fits whole. absurd (broken (payload e) whole) }
+    spoilt_record broken = record { history = w.history; begun = begun kept w.history w.follows; spelled = w.spelled; here = open_here; broken = λ e fits whole. absurd (broken (payload e) whole) }
 
     -- a whole one does, of no entry that can stand there
     pub spoilt_entry : (p next : List ℕ) (to gate : ℕ) → length p ≤ 16777216 → next ≡ b → IsAt next (payloads_of w.history ++ p ∷ []) to gate
@@ -95,6 +95,7 @@ module _ (honest : Type 0) where
         record {
           history = w.history;
           begun = begun kept w.history w.follows;
+          spelled = w.spelled;
           here = open_here;
           broken = λ e fits whole. never e fits (one_payload p (payload e) (gate ∷ here.rest) (whole.next ∷ whole.rest) small whole.small (sym read ∙ whole.is));
         }

@@ -61,8 +61,8 @@ impl Desk {
     ///
     /// # Errors
     /// The first that applies of `BadPrefix`, `BadMeta` with 4 (publisher), 1 (creator) and 2 (title), `Schema` and
-    /// `ClockRange`, which touch no disk; then `NoMemory`, `DiskFailed`, after which the disk may hold any part of a
-    /// journal, and `Occupied`, exactly where the disk isn't empty.
+    /// `ClockRange`, which touch no disk; then `NoMemory`, before which the disk was read at most, `DiskFailed`, after
+    /// which it may hold any part of a journal, and `Occupied`, exactly where it isn't empty.
     pub fn found<D: Disk>(
         alloc: Global,
         disk: &mut D,
@@ -76,6 +76,7 @@ impl Desk {
         ensures broken { IsBroken (record { stamp = now; dataset = dataset.now; columns = columns }) → disk.new ≡ disk.old }
         ensures empty { OnOk result (D.honest → length (D.seen disk.old) ≡ 0) }
         ensures occupied { IsErrOf result faults.Occupied → D.honest → (0 < length (D.seen disk.old)) × Quiet D.seen D.images D.moment D.left_since disk.old disk.new }
+        ensures memory { IsErrOf result faults.NoMemory → D.honest → Quiet D.seen D.images D.moment D.left_since disk.old disk.new }
         ensures later { D.fault_count disk.old ≤ D.fault_count disk.new }
         ensures cause { IsErrOf result faults.DiskFailed → RoseBy (D.fault_count disk.old) 1 (D.fault_count disk.new) }
     {

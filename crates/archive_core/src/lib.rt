@@ -15,5 +15,5 @@ mod writing;
 
 pub use archive_state::{Follower, LookFault, Snapshot};
 pub use desk::Desk;
-pub use laws::one_file_one_history;
+pub use laws::{a_refused_file_stands_for_none, one_file_one_history};
 pub use opening::ResumeFault;

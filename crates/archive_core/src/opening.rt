@@ -52,13 +52,15 @@ impl Desk {
     ///
     /// # Errors
     /// `NotArchive` where the disk doesn't begin as a journal with one record or more; `Damaged` where an open record isn't
-    /// whole, or isn't that of an entry that can stand behind those before it; `DiskFailed`; `NoMemory`.
+    /// whole, or isn't that of an entry that can stand behind those before it; `NoMemory`. After each of these the disk
+    /// was only read. `DiskFailed`.
     pub fn resume<D: Disk>(alloc: Global, disk: &mut D) -> Result<Desk, ResumeFault>
         ensures opens { IfOk result (λ desk. D.honest → Opens (D.seen disk.old) (D.images disk.new) desk) }
         ensures kept { IfOk result (λ desk. D.honest → IsKept (D.images disk.new) desk) }
         ensures ready { IfOk result (λ desk. (desk.ready ≡ some (arc_value desk.present.snapshot)) × (desk.journal.stage ≡ Settled)) }
         ensures not_archive { IsErrOf result NotArchive → D.honest → IsNoArchive (D.seen disk.old) }
         ensures damaged { IfErr result (λ e. (at : ℕ) → e ≡ Damaged at → D.honest → IsSpoilt (D.seen disk.old) at) }
+        ensures quiet { IfErr result (λ e. e ≢ DiskFailed → D.honest → Quiet D.seen D.images D.moment D.left_since disk.old disk.new) }
         ensures moments { D.honest → (history : Listed Told) (a : Archive) (d : Told) → LeadsTo history a → MayFollow history d
             → ((b : Listed ℕ) → D.images disk.old b → Between (payloads_of history) (payload_of d) b)
             → LeavesOnly D.moment D.left_since disk.old disk.new (Between (payloads_of history) (payload_of d)) }

@@ -1,4 +1,5 @@
 use Rattle.std.proofs.Common.{◌≡◌, inr, ◌∷◌, [], ℕ, List, sym, ◌∙◌, subst, ◌≤◌, length}
+use Rattle.cite_disk.proofs.Moments.{quiet_none}
 use Rattle.archive_journal.specs.Stands.{DiskStands}
 use Rattle.entry_codec.specs.declared.entry.FoundEntry.{FoundEntry}
 use Rattle.entry_codec.specs.declared.entry.Entry.TheVariants as entries
@@ -16,6 +17,11 @@ pub returns-in-Err-clause-occupied : goal.returns-in-Err-clause-occupied
 returns-in-Err-clause-occupied g c = λ told.
     let is : c.in-Err.fault ≡ faults.Occupied = cc in
     absurd (plan_not_disk (record { stamp = c.args.now; dataset = c.args.dataset.now; columns = c.args.columns }) c.in-Err.fault c.in-Err.ensures (inr is))
+
+pub returns-in-Err-clause-memory : goal.returns-in-Err-clause-memory
+returns-in-Err-clause-memory g c = λ told honest.
+    let k = g.D.Disk in
+    quiet_none k.seen k.images k.moment k.left_since c.args.disk.now (g.met.D.Disk.only_now honest c.args.disk.now)
 
 pub create-requires : goal.create-requires
 create-requires g c =

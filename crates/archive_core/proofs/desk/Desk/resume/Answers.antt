@@ -1,4 +1,4 @@
-use Rattle.std.proofs.Common.{◌≡◌, ⊎_elim, Err, sym, ap, ◌∙◌}
+use Rattle.std.proofs.Common.{◌≡◌, ⊎_elim, Err, refl, sym, ap, ◌∙◌}
 use Rattle.cite_disk.specs.Device.{Only}
 use Rattle.cite_disk.proofs.Moments.{quiet_then}
 use Rattle.archive_journal.specs.declared.journal.JournalFault.{JournalFault}
@@ -29,6 +29,7 @@ returns-in_default g c =
       ready = tt;
       not_archive = λ e. absurd (cc);
       damaged = λ at e. absurd (cc);
+      quiet = λ other. absurd (other refl);
       moments = λ honest history a d leads may each.
           quiet_leaves k.seen k.images k.moment k.left_since k.honest honest c.args.disk.now c.begin.new.disk (Between (payloads_of history) (payload d)) (c.in-Err.ensures.quiet honest) each;
       idle = λ honest history a leads each.
@@ -36,6 +37,11 @@ returns-in_default g c =
       later = c.in-Err.ensures.later;
       cause = λ e. c.in-Err.ensures.cause (ap (λ (x : JournalFault). Err x) is);
     }
+
+pub returns-in-Err-follow-clause-quiet : goal.returns-in-Err-follow-clause-quiet
+returns-in-Err-follow-clause-quiet g c = λ other honest.
+    let k = g.D.Disk in
+    quiet_then k.seen k.images k.moment k.left_since c.args.disk.now c.begin.new.disk c.follow.new.disk (c.in-Ok.ensures.quiet honest) (c.in-Err-follow.ensures.quiet honest)
 
 pub returns-in-Err-follow-clause-moments : goal.returns-in-Err-follow-clause-moments
 returns-in-Err-follow-clause-moments g c = λ honest history a d leads may each.
@@ -48,6 +54,11 @@ returns-in-Err-follow-clause-idle g c = λ honest history a leads each.
     let k = g.D.Disk in
     quiet_leaves k.seen k.images k.moment k.left_since k.honest honest c.args.disk.now c.follow.new.disk (Shut (payloads_of history))
     (quiet_then k.seen k.images k.moment k.left_since c.args.disk.now c.begin.new.disk c.follow.new.disk (c.in-Ok.ensures.quiet honest) (c.in-Err-follow.ensures.quiet honest)) each
+
+pub returns-in_default-try_clone-clause-quiet : goal.returns-in_default-try_clone-clause-quiet
+returns-in_default-try_clone-clause-quiet g c = λ other honest.
+    let k = g.D.Disk in
+    quiet_then k.seen k.images k.moment k.left_since c.args.disk.now c.begin.new.disk c.follow.new.disk (c.in-Ok.ensures.quiet honest) (c.in-Ok-follow.ensures.quiet honest)
 
 pub returns-in_default-try_clone-clause-moments : goal.returns-in_default-try_clone-clause-moments
 returns-in_default-try_clone-clause-moments g c = λ honest history a d leads may each.
