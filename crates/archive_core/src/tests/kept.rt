@@ -5,7 +5,7 @@ ghost use Rattle.archive_state.specs.Standing.{PartsStand};
 
 use crate::{Desk, ResumeFault, Snapshot};
 use archive_model::{Cited, FoundFault, Moved, Refused, Stored};
-use cite_disk::{MemoryDisk, NoMemory};
+use cite_disk::{Disk, MemoryDisk, NoMemory};
 use cite_schema::{BatchAsk, CiteAsk, Column, Dataset, List, Step};
 use std::alloc::Global;
 use std::marker::Model;
@@ -112,6 +112,16 @@ impl Archive {
     /// How many entries the history has.
     pub fn entries(&self) -> u64 {
         self.desk.entries()
+    }
+
+    /// How many bytes the disk has.
+    pub fn size(&self) -> usize {
+        self.disk.bytes().len()
+    }
+
+    /// How often the disk has failed.
+    pub fn faults(&self) -> u64 {
+        self.disk.faults()
     }
 
     /// The desk and its disk.
