@@ -5,6 +5,7 @@ mod asks;
 mod citing;
 mod crashes;
 mod kept;
+mod lengths;
 mod limits;
 mod migrating;
 mod mixed;
