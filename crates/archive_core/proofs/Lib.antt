@@ -9,3 +9,5 @@ pub mod Planned
 pub mod Spoilt
 pub mod Walking
 pub mod Written
+pub mod Outcomes
+pub mod CitedThere

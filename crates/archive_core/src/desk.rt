@@ -3,6 +3,8 @@ ghost use Rattle.std.specs.Prelude.{◌≡◌, ◌≢◌, ◌≤◌, ◌<◌, �
 ghost use Rattle.std.specs.Arc.{arc_value};
 ghost use Rattle.std.specs.Option.{option_map};
 ghost use Rattle.cite_disk.specs.Device.{LeavesOnly, RoseBy, Quiet};
+ghost use Rattle.query_store.specs.Citations.{numbered};
+ghost use Rattle.query_store.specs.declared.citation.Citation.{Citation as kept_citation};
 ghost use Rattle.entry_codec.specs.declared.entry.Entry.{Entry as Told};
 ghost use Rattle.entry_codec.specs.declared.entry.Entry.TheVariants as entries;
 ghost use Rattle.archive_model.specs.declared.answers.FoundFault.TheVariants as faults;
@@ -146,6 +148,7 @@ impl Desk {
             → Answers (CiteStep a ask.now now) history (λ d. D.honest × Keeps (D.images disk.old) self.old.journal history d) (λ h d. Keeps (D.images disk.new) self.new.journal h d) (disk.new ≡ disk.old) self.old self.new result }
         ensures moments { D.honest → (history : Listed Told) (a : Archive) (d : Told) → StandsFor self.old.present history a → Keeps (D.images disk.old) self.old.journal history d
             → LeavesOnly D.moment D.left_since disk.old disk.new (IsLeft (MadeBy (CiteStep a ask.now now)) history d) }
+        ensures there { IfOk result (λ cited. (kept : kept_citation) × (numbered (arc_value self.new.present.snapshot).store cited.number ≡ some kept)) }
         ensures kept { D.honest → IsKept (D.images disk.new) self.new }
         ensures later { D.fault_count disk.old ≤ D.fault_count disk.new }
         ensures cause { IsErrOf result refusals.DiskFailed → RoseBy (D.fault_count disk.old) 1 (D.fault_count disk.new) }

@@ -9,9 +9,10 @@ use Rattle.archive_state.specs.declared.plan.Planned.{Planned}
 use Rattle.archive_state.specs.declared.present.Present.{Present}
 use Rattle.archive_state.specs.Planning.{Plans}
 use Rattle.archive_state.specs.Standing.{StandsFor}
-use Rattle.archive_core.specs.Keeping.{Held, IsLeft, payloads_of}
+use Rattle.archive_core.specs.Keeping.{Held, Keeps, IsLeft, payloads_of}
 use Rattle.archive_core.specs.Answering.{MadeBy}
 use Rattle.archive_core.specs.Writing.{MayLeaveBy}
+use Rattle.archive_core.proofs.CitedThere.{cited_there}
 use Rattle.archive_core.proofs.NoDisk.{cite_never}
 use Rattle.archive_core.proofs.Planned.{can_be_written}
 use Rattle.archive_core.proofs.Written.{answered, kept_after, left_by_plan}
@@ -59,3 +60,12 @@ returns-clause-cause g c = λ failed.
     (subst (λ (r : Result (Planned Cited) Refused). Plans (CiteStep st.archive c.args.ask.now c.args.now) st.history st.archive r) planned (c.plan_cite-planned.ensures st.history st.archive st.stands))))
     (λ rose. rose)
     (c.write.ensures.cause failed)
+
+pub returns-clause-there : goal.returns-clause-there
+returns-clause-there g c =
+    let d = g.D.Disk in
+    let st = c.self.invariant.stands in
+    let outside = subst (λ (p : Present). StandsFor p st.history st.archive) (ap (λ (h : Held). h.present) c.self.view_is) st.stands in
+    cited_there st.archive c.args.ask.now c.args.now st.history (λ e. d.honest × Keeps (d.images c.args.disk.now) c.args.self.now.journal st.history e) (λ h e. Keeps (d.images c.write.new.disk) c.write.new.self.journal h e) (c.write.new.disk ≡ c.args.disk.now) c.args.self.now c.write.new.self c.write.result outside
+    (answered (CiteStep st.archive c.args.ask.now c.args.now) st.history st.archive d.honest (c.write.new.disk ≡ c.args.disk.now) (d.images c.args.disk.now) (d.images c.write.new.disk) c.args.self.now c.write.new.self
+    (λ same b i. subst (λ x. d.images x b) same i) c.plan_cite-planned.result c.write.result (c.plan_cite-planned.ensures st.history st.archive st.stands) c.write.ensures.written)
