@@ -1,4 +1,4 @@
-# `make demo` runs the program's main job on a table of examples/; `make test` runs the gate and the checks.
+# `make demo` runs the program's commands on files of examples/; `make test` runs the gate and the checks.
 .PHONY: demo test program
 
 program := crates/cite_prog/out/cite_prog
@@ -6,6 +6,12 @@ program := crates/cite_prog/out/cite_prog
 demo: program
 	@echo 'select depth 10 20 < examples/stations.csv'
 	@$(program) archive select depth 10 20 < examples/stations.csv
+	@echo "init 10.5072 Lab 'Rey, A.' Depths sid:int depth:int"
+	@folder=$$(mktemp -d) && $(program) $$folder/new.archive init 10.5072 Lab 'Rey, A.' Depths sid:int depth:int; \
+		status=$$?; rm -rf "$$folder"; exit $$status
+	@echo 'verify (of a copy of examples/depths.archive)'
+	@folder=$$(mktemp -d) && cp examples/depths.archive $$folder && $(program) $$folder/depths.archive verify; \
+		status=$$?; rm -rf "$$folder"; exit $$status
 
 # Proves the program and what it stands on, and builds it.
 program:

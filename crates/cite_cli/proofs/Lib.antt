@@ -1,8 +1,12 @@
 pub mod Collecting
+pub mod Completing
+pub mod Delivering
 pub mod FirstLines
+pub mod Keeping
 pub mod LineFaults
 pub mod Outputs
 pub mod Questions
 pub mod Results
 pub mod Streaming
-pub mod Words
+pub mod Verifying
+pub mod WordLists

@@ -1,5 +1,9 @@
 pub mod Run
+pub mod Completing
 pub mod Select
+pub mod Init
+pub mod Verify
+pub mod Seen
 pub mod Refusals
 pub mod Parts
 pub mod Streams

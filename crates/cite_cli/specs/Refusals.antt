@@ -1,4 +1,4 @@
--- Which rule an input breaks first, and the line that tells it.
+-- The line that tells a broken rule, and which rule an input of `select` breaks first.
 use Rattle.std.specs.Prelude.{◌≡◌, ◌≢◌, ◌↔◌, ℕ, ◌+◌, List, [], ◌∷◌, ◌++◌, Option, Some, None, map, length, AllPairs, nat_eq, codes, unwrap_or, if◌then◌else◌}
 use Rattle.std.specs.Option.{option_map, option_or}
 use Rattle.std.specs.Fmt.{decimal}
@@ -11,7 +11,7 @@ use Rattle.cite_schema.specs.declared.value.Value.{Value}
 use Rattle.cite_schema.specs.declared.schema.Column.{Column}
 use Rattle.subset_query.specs.Checks.{kind_named}
 use Rattle.cite_cli.specs.declared.refusal.Refusal.{Refusal}
-use Rattle.cite_cli.specs.declared.refusal.Refusal.TheVariants.{BadHeader, UnknownColumn, WrongKind, BadWidth, BadCell, KeyTwice, ResultTooLarge}
+use Rattle.cite_cli.specs.declared.refusal.Refusal.TheVariants.{BadHeader, UnknownColumn, WrongKind, BadWidth, BadCell, KeyTwice, ResultTooLarge, BadPrefix, BadMeta, NoColumns, TooManyColumns, BadName, NameTwice, ClockRange}
 
 -- the name of a rule, and its numbers, each after a space
 abbrev pub told : Refusal → List ℕ
@@ -22,6 +22,13 @@ told (BadWidth line) = codes "BadWidth " ++ decimal line
 told (BadCell line column) = codes "BadCell " ++ decimal line ++ codes " " ++ decimal column
 told (KeyTwice line) = codes "KeyTwice " ++ decimal line
 told (ResultTooLarge bytes) = codes "ResultTooLarge " ++ decimal bytes
+told BadPrefix = codes "BadPrefix"
+told (BadMeta part) = codes "BadMeta " ++ decimal part
+told NoColumns = codes "NoColumns"
+told TooManyColumns = codes "TooManyColumns"
+told (BadName place) = codes "BadName " ++ decimal place
+told (NameTwice place) = codes "NameTwice " ++ decimal place
+told (ClockRange moment) = codes "ClockRange " ++ decimal moment
 
 -- the line of a refusal
 abbrev pub refusal_line : Refusal → List ℕ

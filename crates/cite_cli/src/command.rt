@@ -1,52 +1,49 @@
 // The program's top call.
 ghost use Rattle.std.specs.Prelude.{map, string_bytes};
+ghost use Rattle.cite_cli.specs.Seen.{on_disk};
 ghost use Rattle.cite_cli.specs.Run.{Answers};
 
 use crate::bounds::Bounds;
+use crate::ending::{Ending, status};
+use crate::init::init;
 use crate::input::{Stop, take_all};
 use crate::output::put_all;
 use crate::select::{Output, select_output};
-use cite_ports::{Sink, Source};
+use crate::verify::verify;
+use crate::words::{init_words, is_verify, select_words};
+use cite_disk::Disk;
+use cite_ports::{Clock, Sink, Source};
 use cite_schema::NoMemory;
 use std::alloc::Global;
 use std::thread::Threads;
 
-/// How a run ends.
-#[derive(Clone, Copy, Debug, PartialEq, Eq)]
-pub enum Ending {
-    /// All is written.
-    Done,
-    /// The words have no form.
-    Usage,
-    /// The source failed.
-    ReadFault,
-    /// The sink failed.
-    WriteFault,
-    /// Want of memory.
-    NoMemory,
-    /// The input is longer than 67,108,864 bytes.
-    TooLong,
-    /// The input breaks a rule; the line names it.
-    Refused,
-}
-
 /// Does what the words say and answers the status, which ends the process:
 ///
-/// - 0: the result of `select COLUMN LO HI` is written, and the input was read to its end;
-/// - 2: the words have no form; nothing is taken or written;
+/// - 0: all is written: the result of `select COLUMN LO HI`, for which the input was read to its end; the name of the
+///   archive that `init PREFIX PUBLISHER CREATOR TITLE COLUMN..` founded on the disk; what `verify` tells of the disk's
+///   archive;
+/// - 2: the words have no form; nothing is taken, written or asked for;
 /// - 3: the source failed; nothing is written;
 /// - 4: the sink failed; a front of what was due is written;
+/// - 5: the disk failed; nothing is written;
+/// - 6: the disk has no archive that can be opened, and the line `NotArchive` or `Damaged` with the place is written;
+/// - 7: `init` found a disk that holds something, and the line `Occupied` is written;
 /// - 8: want of memory; nothing is written;
 /// - 9: 67,108,865 bytes were taken; nothing is written;
-/// - 10: the input breaks a rule, and the line `Refused NAME` with the rule's numbers is written.
+/// - 10: the input of `select`, or the words or the moment of `init`, break a rule, and the line `Refused NAME` with the
+///   rule's numbers is written.
 ///
-/// It returns for every input, after one pass over the input and n log n in its lines.
-pub fn run<R: Threads + Sync, S: Source, K: Sink>(
+/// `select` asks neither the disk nor the clock, `init` takes one moment, and `verify` none; both take nothing of the
+/// source. It returns for every input: `select` after one pass over the input and n log n in its lines, `verify` after one
+/// pass over the disk and what its entries and citations cost.
+pub fn run<R: Threads + Sync, S: Source, K: Sink, D: Disk, C: Clock>(
     _rt: &R,
     alloc: Global,
     words: &Vec<String>,
     source: &mut S,
     sink: &mut K,
+    disk: &mut D,
+    clock: &mut C,
 ) -> u8
     ensures { Answers (map string_bytes words.now.items) (record {
       left_before = S.left source.old;
@@ -57,41 +54,25 @@ pub fn run<R: Threads + Sync, S: Source, K: Sink>(
       written_after = K.written sink.new;
       writes_before = K.faults_of sink.old;
       writes_after = K.faults_of sink.new;
-    }) result }
+      given_before = C.given clock.old;
+      given_after = C.given clock.new;
+    }) (on_disk D.honest D.seen D.images D.moment D.left_since D.fault_count disk.old disk.new) result }
 {
-    match words.as_slice() {
-        [command, column, low, high] if is_select(command) => {
-            match Bounds::read(low.as_bytes(), high.as_bytes()) {
-                Some(bounds) => status(select(alloc, column.as_bytes(), &bounds, source, sink)),
-                None => status(Ending::Usage),
-            }
-        }
-        _ => status(Ending::Usage),
+    let words = words.as_slice();
+    if let Some(asked) = select_words(words) {
+        return status(select(alloc, asked.column, &asked.bounds, source, sink));
     }
-}
-
-ghost use Rattle.std.specs.Prelude.{◌≡◌, ◌↔◌, IsTrue, codes};
-ghost use Rattle.cite_cli.specs.Run.{status_of, Selects};
-
-fn is_select(word: &String) -> bool
-    ensures { IsTrue result ↔ (string_bytes word.now ≡ codes "select") }
-{
-    word.as_str() == "select"
-}
-
-fn status(ending: Ending) -> u8
-    ensures { result ≡ status_of ending }
-{
-    match ending {
-        Ending::Done => 0,
-        Ending::Usage => 2,
-        Ending::ReadFault => 3,
-        Ending::WriteFault => 4,
-        Ending::NoMemory => 8,
-        Ending::TooLong => 9,
-        Ending::Refused => 10,
+    if let Some(told) = init_words(words) {
+        return status(init(alloc, &told, sink, disk, clock));
     }
+    if is_verify(words) {
+        return status(verify(alloc, sink, disk));
+    }
+    status(Ending::Usage)
 }
+
+ghost use Rattle.std.specs.Prelude.{ℕ, List as Listed, Option};
+ghost use Rattle.cite_cli.specs.Run.{Selects};
 
 fn select<S: Source, K: Sink>(
     alloc: Global,
@@ -100,7 +81,7 @@ fn select<S: Source, K: Sink>(
     source: &mut S,
     sink: &mut K,
 ) -> Ending
-    ensures { Selects column.now bounds.now (record {
+    ensures { (given : Option (Listed ℕ)) → Selects column.now bounds.now (record {
       left_before = S.left source.old;
       left_after = S.left source.new;
       reads_before = S.faults_of source.old;
@@ -109,6 +90,8 @@ fn select<S: Source, K: Sink>(
       written_after = K.written sink.new;
       writes_before = K.faults_of sink.old;
       writes_after = K.faults_of sink.new;
+      given_before = given;
+      given_after = given;
     }) result }
 {
     let text = match take_all(alloc, source) {

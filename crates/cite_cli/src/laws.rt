@@ -1,6 +1,10 @@
-// What holds of all inputs.
+// What holds of all inputs and disks.
 ghost use Rattle.cite_cli.specs.Refusals.{FirstBrokenIsTold, TablesBreakNone};
 ghost use Rattle.cite_cli.specs.Select.{OneOutputIsDue};
+ghost use Rattle.cite_cli.specs.Seen.{on_disk};
+ghost use Rattle.cite_cli.specs.Completing.{InitCompletes, VerifyCompletes};
+
+use cite_disk::Disk;
 
 /// For an input of `select` one output alone is due: its result, or the line of the first rule that it breaks. So each
 /// refusal comes exactly where its rule is the first that is broken. A law: the call does nothing.
@@ -13,4 +17,12 @@ pub fn one_output_is_due()
 pub fn the_first_broken_line_is_told()
     ensures first { FirstBrokenIsTold }
     ensures none { TablesBreakNone }
+{}
+
+/// Where neither the sink nor an honest disk counts a fault, `init` is done on an empty disk, if its words and the moment
+/// break no rule, and `verify` on a disk whose bytes stand for a legal history; or memory is wanting. No other answer can
+/// stand there. A law: the call does nothing.
+pub fn a_run_without_a_fault_is_done<D: Disk>()
+    ensures init { (old new : D) → InitCompletes (on_disk D.honest D.seen D.images D.moment D.left_since D.fault_count old new) }
+    ensures verify { (old new : D) → VerifyCompletes (on_disk D.honest D.seen D.images D.moment D.left_since D.fault_count old new) }
 {}

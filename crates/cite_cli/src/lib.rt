@@ -1,14 +1,17 @@
-//! The program's commands, over a source and a sink whose content and faults a contract can name.
+//! The program's commands, over a source, a sink, a disk and a clock whose content and faults a contract can name.
 //!
-//! `run` reads the words, takes the input, reads the table of its lines, and writes the result of the query that the
-//! words ask, or the first rule that the input breaks. Its one clause tells, for each status, what was taken and
-//! written and why: the definitions stand in `specs/`, from `Run` down to `Streams`.
+//! `run` reads the words and does what they say: `select` takes the input, reads the table of its lines, and writes the
+//! result of the query that the words ask; `init` founds an archive on the disk; `verify` opens the disk's archive and
+//! tells what each of its citations resolves to. Its one clause tells, for each status, what was taken, asked for and
+//! written, what the disk holds, and why: the definitions stand in `specs/`, from `Run` down to `Streams`.
 #![tactic(auto)]
 
 mod asking;
 mod bounds;
 mod command;
+mod ending;
 mod header;
+mod init;
 mod input;
 mod laws;
 mod lines;
@@ -16,9 +19,11 @@ mod output;
 mod refusal;
 mod rows;
 mod select;
+mod verify;
+mod words;
 
 pub use command::run;
-pub use laws::{one_output_is_due, the_first_broken_line_is_told};
+pub use laws::{a_run_without_a_fault_is_done, one_output_is_due, the_first_broken_line_is_told};
 
 #[cfg(test)]
 mod tests;

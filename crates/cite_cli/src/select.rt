@@ -5,7 +5,7 @@ ghost use Rattle.cite_cli.specs.Parts.{Explains};
 use crate::asking::select_form;
 use crate::bounds::Bounds;
 use crate::header::read_header;
-use crate::refusal::{Fault, Refusal};
+use crate::refusal::{Fault, Refusal, refusal_line};
 use crate::rows::read_rows;
 use cite_schema::{ByteText, NoMemory};
 use csv_records::records_in;
@@ -66,14 +66,4 @@ fn select_result(
         Err(LayFault::TooLarge { bytes }) => Err(Fault::Refused(Refusal::ResultTooLarge { bytes })),
         Err(LayFault::NoMemory) => Err(Fault::NoMemory),
     }
-}
-
-ghost use Rattle.std.specs.Prelude.{◌≡◌};
-ghost use Rattle.cite_cli.specs.Refusals.{refusal_line};
-
-fn refusal_line(alloc: Global, refusal: Refusal) -> Result<ByteText, NoMemory>
-    ensures { IfOk result (λ line. line ≡ refusal_line refusal) }
-{
-    let line = format!(in alloc; "Refused {refusal}\n")?;
-    Ok(ByteText::from_slice(alloc, line.as_bytes())?)
 }

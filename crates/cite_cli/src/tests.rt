@@ -1,6 +1,10 @@
-// `select` over a source and a sink in memory.
+// The commands over a source, a sink, a disk and a clock in memory: `select` here, the others beside it.
+mod archives;
+mod foundings;
+
 use crate::command::run;
-use cite_ports::{MemorySink, MemorySource};
+use cite_disk::{Disk, MemoryDisk};
+use cite_ports::{Clock, MemoryClock, MemorySink, MemorySource, Sink, Source};
 use std::alloc::Global;
 use std::process::Abort;
 use std::test::Fail;
@@ -227,7 +231,7 @@ const LINES: [Refused; 12] = [
     ),
 ];
 
-const NO_FORM: [&[&str]; 9] = [
+const NO_FORM: [&[&str]; 18] = [
     &[],
     &["select"],
     &["select", "depth", "10"],
@@ -237,6 +241,15 @@ const NO_FORM: [&[&str]; 9] = [
     &["select", "depth", "10", ""],
     &["select", "depth", "10", "20", "30"],
     &["Select", "depth", "10", "20"],
+    &["init"],
+    &["init", "10.5072", "Lab", "Rey, A.", "Depths"],
+    &["Init", "10.5072", "Lab", "Rey, A.", "Depths", "sid:int"],
+    &["verify", "now"],
+    &["Verify"],
+    &["session"],
+    &["load", "1"],
+    &["load"],
+    &[""],
 ];
 
 fn words_of(alloc: Global, words: &[&str]) -> Result<Vec<String>, Fail> {
@@ -262,6 +275,32 @@ fn sink_of(alloc: Global, fails: &[u64]) -> Result<MemorySink, Fail> {
     Ok(MemorySink::make(alloc, Vec::from_slice(alloc, fails)?)?)
 }
 
+// The status of a run. It promises nothing, so that those who call it have no clause to carry.
+fn ended<R: Threads + Sync, S: Source, K: Sink, D: Disk, C: Clock>(
+    rt: &R,
+    alloc: Global,
+    words: &Vec<String>,
+    source: &mut S,
+    sink: &mut K,
+    disk: &mut D,
+    clock: &mut C,
+) -> u8 {
+    run(rt, alloc, words, source, sink, disk, clock)
+}
+
+// The status of a run that is to ask neither the disk nor the clock: the disk would fail at each call.
+fn apart<R: Threads + Sync>(
+    rt: &R,
+    alloc: Global,
+    words: &Vec<String>,
+    source: &mut MemorySource,
+    sink: &mut MemorySink,
+) -> Result<u8, Fail> {
+    let mut disk = MemoryDisk::make(alloc, Vec::new(alloc), Vec::new(alloc), 0)?;
+    let mut clock = MemoryClock::make(Vec::from_array(alloc, [0])?)?;
+    Ok(ended(rt, alloc, words, source, sink, &mut disk, &mut clock))
+}
+
 // The words over the input give this, in one piece and cut into single bytes. Memory is not found wanting: the status
 // says so.
 fn gives<R: Threads + Sync + Abort>(
@@ -276,7 +315,7 @@ fn gives<R: Threads + Sync + Abort>(
         let words = words_of(alloc, words)?;
         let mut source = source_of(alloc, input, piece, &[])?;
         let mut sink = sink_of(alloc, &[])?;
-        let answered = run(rt, alloc, &words, &mut source, &mut sink);
+        let answered = apart(rt, alloc, &words, &mut source, &mut sink)?;
         assert_eq!(rt; answered, status);
         assert_eq!(rt; sink.bytes(), output);
     }
@@ -389,7 +428,7 @@ fn words_without_a_form(rt: HostRuntime) -> Result<(), Fail> {
         let words = words_of(alloc, words)?;
         let mut source = source_of(alloc, b"sid:int,depth:int\n", 1000, &[])?;
         let mut sink = sink_of(alloc, &[])?;
-        assert_eq!(rt; run(&rt, alloc, &words, &mut source, &mut sink), 2);
+        assert_eq!(rt; apart(&rt, alloc, &words, &mut source, &mut sink)?, 2);
         assert!(rt; sink.bytes().is_empty());
     }
     Ok(())
@@ -402,7 +441,7 @@ fn a_source_that_fails(rt: HostRuntime) -> Result<(), Fail> {
     let words = words_of(alloc, DEPTHS)?;
     let mut source = source_of(alloc, b"sid:int,depth:int\n2,12\n", 20, &[2])?;
     let mut sink = sink_of(alloc, &[])?;
-    let status = run(&rt, alloc, &words, &mut source, &mut sink);
+    let status = apart(&rt, alloc, &words, &mut source, &mut sink)?;
     assert_eq!(rt; status, 3);
     assert!(rt; sink.bytes().is_empty());
     Ok(())
@@ -414,7 +453,7 @@ fn a_sink_that_fails(rt: HostRuntime) -> Result<(), Fail> {
     let words = words_of(alloc, DEPTHS)?;
     let mut source = source_of(alloc, b"sid:int,depth:int\n2,12\n", 1000, &[])?;
     let mut sink = sink_of(alloc, &[1])?;
-    assert_eq!(rt; run(&rt, alloc, &words, &mut source, &mut sink), 4);
+    assert_eq!(rt; apart(&rt, alloc, &words, &mut source, &mut sink)?, 4);
     assert!(rt; sink.bytes().is_empty());
     Ok(())
 }
@@ -427,7 +466,7 @@ fn an_input_that_is_too_long(rt: HostRuntime) -> Result<(), Fail> {
     let bytes = vec![in alloc; b'x'; 67_108_865]?;
     let mut source = MemorySource::make(bytes, 1_000_000, Vec::new(alloc))?;
     let mut sink = sink_of(alloc, &[])?;
-    assert_eq!(rt; run(&rt, alloc, &words, &mut source, &mut sink), 9);
+    assert_eq!(rt; apart(&rt, alloc, &words, &mut source, &mut sink)?, 9);
     assert!(rt; sink.bytes().is_empty());
     Ok(())
 }

@@ -21,32 +21,51 @@ pub enum Words {
     NoMemory,
 }
 
-impl Words {
-    /// The words behind the program's name and FILE, if there is a FILE. It moves them, in time linear in their number.
-    pub fn of(alloc: Global, args: io::Result<Args>) -> Words
-        ensures said { IfOk args (λ args. Says (map string_bytes (into_iter_items args)) result) }
-        ensures unreadable { IfErr args (λ error. error_kind error ≢ ErrorKind.OutOfMemory → result ≡ Words.Unreadable) }
+/// What the program was started with: FILE, or the empty text where there is none, and what it was asked.
+#[derive(Drop)]
+pub struct Started {
+    pub file: String,
+    pub words: Words,
+}
+
+impl Started {
+    /// FILE and the words behind it, as the arguments tell them behind the program's name. It moves them, in time linear
+    /// in their number.
+    pub fn of(alloc: Global, args: io::Result<Args>) -> Started
+        ensures said { IfOk args (λ args. Says (map string_bytes (into_iter_items args)) (string_bytes result.file) result.words) }
+        ensures unreadable { IfErr args (λ error. error_kind error ≢ ErrorKind.OutOfMemory → result.words ≡ Words.Unreadable) }
     {
+        let file = String::new(alloc);
         match args {
             Ok(args) => said(alloc, args),
-            Err(error) if error.kind() == ErrorKind::OutOfMemory => Words::NoMemory,
-            Err(_) => Words::Unreadable,
+            Err(error) if error.kind() == ErrorKind::OutOfMemory => Started {
+                file,
+                words: Words::NoMemory,
+            },
+            Err(_) => Started {
+                file,
+                words: Words::Unreadable,
+            },
         }
     }
 }
 
 // What the arguments say.
-fn said(alloc: Global, mut args: Args) -> Words
-    ensures { Says (map string_bytes (into_iter_items args)) result }
+fn said(alloc: Global, mut args: Args) -> Started
+    ensures { Says (map string_bytes (into_iter_items args)) (string_bytes result.file) result.words }
 {
     let _program = args.next();
-    if args.next().is_none() {
-        return Words::NoFile;
-    }
-    match all_left(alloc, args) {
+    let Some(file) = args.next() else {
+        return Started {
+            file: String::new(alloc),
+            words: Words::NoFile,
+        };
+    };
+    let words = match all_left(alloc, args) {
         Some(words) => Words::Command(words),
         None => Words::NoMemory,
-    }
+    };
+    Started { file, words }
 }
 
 // The words that are left, or `None` where memory is wanting.

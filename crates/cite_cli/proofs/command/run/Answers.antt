@@ -1,39 +1,39 @@
-use Rattle.std.proofs.Common.{◌∙◌, ◌∷◌, [], refl, inl, inr, ap, map, List, ℕ}
+use Rattle.std.proofs.Common.{◌≡◌, refl, inl, inr, subst, map, List, String, Global, false, true}
 use Rattle.std.specs.Prelude.{string_bytes}
-use Rattle.cite_cli.proofs.Words.{four_words, no_bounds}
+use Rattle.cite_cli.specs.Run.{HaveNoForm}
+use Rattle.cite_cli.specs.Run.IsRun.{BySelect, ByInit, ByVerify}
+use Rattle.cite_cli.specs.Parts.{told_by, columns_by}
 use Rattle.cite_cli.proofs.command.run.Goals as goal
 
 pub returns-in-Some : goal.returns-in-Some
 returns-in-Some g c =
-    let is = c.as_slice.ensures.value in
-    let whole = four_words string_bytes c.args.words.now.items c.command-item.result c.column-item.result c.low-item.result c.high-item.result
-    (rw is at c.in-len4.len_at_least) (rw is at c.in-len4.len_below) (rw is at c.command-item.is) (rw is at c.column-item.is) (rw is at c.low-item.is) (rw is at c.high-item.is) in
-    let command = c.is_select.ensures.0 c.if-is_select.true in
-    inr (record {
-      column = string_bytes c.column-item.result;
-      bounds = c.in-Some.bounds;
-      form = record {
-        low = string_bytes c.low-item.result;
-        high = string_bytes c.high-item.result;
-        words_are = whole ∙ ap (λ (w : List ℕ). w ∷ string_bytes c.column-item.result ∷ string_bytes c.low-item.result ∷ string_bytes c.high-item.result ∷ []) command;
-        bounds_are = rw (c.as_bytes.ensures.value, c.as_bytes-in-len4.ensures.value) at c.in-Some.ensures;
-      };
-      ending = c.select.result;
-      status_is = c.status.ensures;
-      did = rw c.as_bytes-in-Some.ensures.value at c.select.ensures;
-    })
+    let asked = c.in-Some.asked in
+    inr (c.select.result, c.status.ensures, BySelect asked.column.now asked.bounds (rw c.as_slice-words.ensures.value at c.in-Some.ensures) (record { timeless = refl; untouched = refl }) (c.select.ensures (g.C.Clock.given c.args.clock.now)))
 
-pub returns-in-None : goal.returns-in-None
-returns-in-None g c =
-    let is = c.as_slice.ensures.value in
-    let whole = four_words string_bytes c.args.words.now.items c.command-item.result c.column-item.result c.low-item.result c.high-item.result
-    (rw is at c.in-len4.len_at_least) (rw is at c.in-len4.len_below) (rw is at c.command-item.is) (rw is at c.column-item.is) (rw is at c.low-item.is) (rw is at c.high-item.is) in
+pub returns-in-Some-init_words : goal.returns-in-Some-init_words
+returns-in-Some-init_words g c =
+    let told = c.in-Some-init_words.told in
+    let source = c.args.source.now in
+    inr (c.init.result, c.status-in-Some-init_words.ensures, ByInit (told_by told) (columns_by told) (rw c.as_slice-words.ensures.value at c.in-Some-init_words.ensures) (c.init.ensures (g.S.Source.left source) (g.S.Source.faults_of source)))
+
+pub returns-then-is_verify : goal.returns-then-is_verify
+returns-then-is_verify g c =
+    let source = c.args.source.now in
+    inr (c.verify.result, c.status-then-is_verify.ensures, ByVerify (rw c.as_slice-words.ensures.value at (c.if-is_verify.ensures.0 refl)) (c.verify.ensures (g.S.Source.left source) (g.C.Clock.given c.args.clock.now) (g.S.Source.faults_of source)))
+
+pub returns : goal.returns
+returns g c =
+    let none : HaveNoForm (map string_bytes c.as_slice-words.result.now) = record {
+      no_select = c.in_default.ensures;
+      no_init = c.in_default-init_words.ensures;
+      no_verify = λ is. let e : false ≡ true = c.if-is_verify.ensures.1 is in absurd (cc);
+    } in
     inl (
-      c.status-in-None.ensures,
+      c.status-2.ensures,
       record {
-        none = no_bounds (map string_bytes c.args.words.now.items) (string_bytes c.command-item.result) (string_bytes c.column-item.result) (string_bytes c.low-item.result) (string_bytes c.high-item.result) whole
-            (rw (c.as_bytes.ensures.value, c.as_bytes-in-len4.ensures.value) at c.in-None.ensures);
-        untaken = refl;
+        none = subst (λ (words : List (String Global)). HaveNoForm (map string_bytes words)) c.as_slice-words.ensures.value none;
+        untaken = record { left = refl; reads = refl };
         silent = refl;
+        apart = record { timeless = refl; untouched = refl };
       },
     )

@@ -6,7 +6,7 @@ use Rattle.cite_cli.specs.Select.{IsDue}
 use Rattle.cite_cli.proofs.command.select.Goals as goal
 
 pub returns-in-Ok-Done : goal.returns-in-Ok-Done
-returns-in-Ok-Done g c =
+returns-in-Ok-Done g c given =
     let full = subst (λ (out : Output). Explains c.args.column.now c.args.bounds.now c.as_slice.result.now out) c.in-Ok-Done.field-0-is c.in-Ok-Done.ensures in (
       c.in-Ok.text.items,
       c.in-Ok-Done.bytes,
@@ -17,7 +17,7 @@ returns-in-Ok-Done g c =
     )
 
 pub returns-in-Ok-Refused : goal.returns-in-Ok-Refused
-returns-in-Ok-Refused g c =
+returns-in-Ok-Refused g c given =
     let refused = subst (λ (out : Output). Explains c.args.column.now c.args.bounds.now c.as_slice.result.now out) c.in-Ok-Refused.field-0-is c.in-Ok-Refused.ensures in (
       c.in-Ok.text.items,
       c.in-Ok-Refused.line,
