@@ -11,8 +11,8 @@
 #
 # A row has a number for its key, a text and a number. `verify` opens the journal and tells its rows; `sha256sum` reads the
 # same file; `sqlite3` imports the rows as CSV into a table in memory with no journal, and into one in a file, each by one
-# `.import`. All are run in turn in each round, and the best round of each counts. Time is that of the clock, memory the
-# largest resident set.
+# `.import`. All are run in turn in each round, and the best round of each counts. Time is processor time, memory the largest
+# resident set.
 set -euo pipefail
 
 batches=${1:-50}
@@ -44,8 +44,8 @@ awk -v rows="$rows" 'BEGIN {
 timed() { # name program word..
     local name=$1
     shift
-    command time -f '%e %M' -o "$work/figures" "$@" > "$work/$name.out"
-    cat "$work/figures" >> "$work/$name.runs"
+    command time -f '%U %S %M' -o "$work/figures" "$@" > "$work/$name.out"
+    awk '{ print $1 + $2, $3 }' "$work/figures" >> "$work/$name.runs"
 }
 
 least() { # name column
