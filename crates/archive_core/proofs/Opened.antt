@@ -19,7 +19,7 @@ use Rattle.archive_state.specs.declared.present.Present.{Present}
 use Rattle.archive_state.specs.Following.{Follows}
 use Rattle.archive_state.specs.Standing.{StandsFor}
 use Rattle.archive_core.specs.Keeping.{Held, IsKept, MayFollow, payloads_of}
-use Rattle.archive_core.specs.Opening.{Opens, Walked}
+use Rattle.archive_core.specs.Opening.{Opens, Resumes, Walked}
 use Rattle.archive_core.proofs.EntrySizes.{payloads_are_small, follower_is_small}
 use Rattle.archive_core.proofs.Planned.{counted_end}
 
@@ -46,19 +46,23 @@ module _ (honest : Type 0) (b : List ℕ) (walk : Walk) (kept : Option Present) 
 pub never_empty : (honest : Type 0) (b : List ℕ) (walk : Walk) (kept : Option Present) → Walked honest b walk kept → walk.gate ≢ 1 → kept ≢ None
 never_empty honest b walk kept w shut none = shut (w.first (subst (λ (k : Option Present). Follows k w.history) none w.follows))
 
--- what was walked is opened
-pub opens : (honest : Type 0) (old b : List ℕ) (images : List ℕ → Type 0) (walk : Walk) (kept : Option Present) (desk : Held) → honest → b ≡ old → Walked honest b walk kept → kept ≡ Some desk.present
-    → walk.gate ≢ 1 → desk.journal.stage ≡ Settled → ((ps : List (List ℕ)) (p : List ℕ) → IsAt b ps walk.at walk.gate → DiskStands images desk.journal ps p) → Opens old images desk
-opens honest old b images walk kept desk holds same w some shut settled stands =
+-- what was walked is resumed
+pub resumes : (honest : Type 0) (old b : List ℕ) (images : List ℕ → Type 0) (walk : Walk) (kept : Option Present) (desk : Held) → (honest → b ≡ old) → Walked honest b walk kept → kept ≡ Some desk.present
+    → walk.gate ≢ 1 → desk.journal.stage ≡ Settled → (honest → (ps : List (List ℕ)) (p : List ℕ) → IsAt b ps walk.at walk.gate → DiskStands images desk.journal ps p) → Resumes honest old images desk
+resumes honest old b images walk kept desk same w some shut settled stands =
     let found = follows honest b walk kept desk.present w some in
     record {
       history = w.history;
       archive = found.0;
       spelled = w.spelled;
-      is = subst (λ (l : List ℕ). Stands l (payloads_of w.history)) same (at_end b (payloads_of w.history) walk.at walk.gate (w.here holds) shut);
       stands = found.1;
-      keeps = λ d. record { stands = stands (payloads_of w.history) (payload d) (w.here holds); legal = λ unsettled. absurd (unsettled settled) };
+      is = λ holds. subst (λ (l : List ℕ). Stands l (payloads_of w.history)) (same holds) (at_end b (payloads_of w.history) walk.at walk.gate (w.here holds) shut);
+      keeps = λ holds d. record { stands = stands holds (payloads_of w.history) (payload d) (w.here holds); legal = λ unsettled. absurd (unsettled settled) };
     }
+
+-- what was resumed is opened, on an honest disk
+pub opens : (honest : Type 0) (b : List ℕ) (images : List ℕ → Type 0) (desk : Held) → honest → Resumes honest b images desk → Opens b images desk
+opens honest b images desk holds r = record { history = r.history; archive = r.archive; spelled = r.spelled; is = r.is holds; stands = r.stands; keeps = r.keeps holds }
 
 -- and the disk keeps it
 pub opened_kept : (b : List ℕ) (images : List ℕ → Type 0) (desk : Held) → Opens b images desk → IsKept images desk

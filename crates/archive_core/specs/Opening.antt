@@ -22,6 +22,15 @@ pub record Opens (b : List ℕ) (images : List ℕ → Type 0) (desk : Held) : T
   pub stands : StandsFor desk.present history archive
   pub keeps : (d : Entry) → Keeps images desk.journal history d
 
+-- the desk stands for a legal history of entries with a spelling; of an honest disk, the bytes stand for it too, and the disk keeps it from now on
+pub record Resumes (honest : Type 0) (b : List ℕ) (images : List ℕ → Type 0) (desk : Held) : Type 0 where
+  pub history : List Entry
+  pub archive : Archive
+  pub spelled : AreSpelled history
+  pub stands : StandsFor desk.present history archive
+  pub is : honest → Stands b (payloads_of history)
+  pub keeps : honest → (d : Entry) → Keeps images desk.journal history d
+
 -- the entries are none, or a legal history
 abbrev pub IsBegun : List Entry → Type 0
 IsBegun [] = ◌≡◌ {A = List Entry} [] []

@@ -10,7 +10,7 @@ ghost use Rattle.entry_codec.specs.Payloads.{payload as payload_of};
 ghost use Rattle.archive_model.specs.Archives.{Archive};
 ghost use Rattle.archive_model.specs.Histories.{LeadsTo};
 ghost use Rattle.archive_core.specs.Keeping.{IsKept, MayFollow, payloads_of};
-ghost use Rattle.archive_core.specs.Opening.{IsSpoilt, Opens, Walked};
+ghost use Rattle.archive_core.specs.Opening.{IsSpoilt, Opens, Resumes, Walked};
 ghost use Rattle.archive_core.specs.declared.opening.ResumeFault.TheVariants.{NotArchive, Damaged, DiskFailed, NoMemory as no_memory};
 
 use crate::desk::Desk;
@@ -57,6 +57,7 @@ impl Desk {
     pub fn resume<D: Disk>(alloc: Global, disk: &mut D) -> Result<Desk, ResumeFault>
         ensures opens { IfOk result (λ desk. D.honest → Opens (D.seen disk.old) (D.images disk.new) desk) }
         ensures kept { IfOk result (λ desk. D.honest → IsKept (D.images disk.new) desk) }
+        ensures resumes { IfOk result (λ desk. Resumes D.honest (D.seen disk.old) (D.images disk.new) desk) }
         ensures ready { IfOk result (λ desk. (desk.ready ≡ some (arc_value desk.present.snapshot)) × (desk.journal.stage ≡ Settled)) }
         ensures not_archive { IsErrOf result NotArchive → D.honest → IsNoArchive (D.seen disk.old) }
         ensures damaged { IfErr result (λ e. (at : ℕ) → e ≡ Damaged at → D.honest → IsSpoilt (D.seen disk.old) at) }

@@ -15,7 +15,7 @@ use Rattle.cite_cli.specs.Seen.Ends.{Whole, Cut, Fails, Wants}
 use Rattle.cite_cli.specs.Init.{said_column, IsInit, IsUnbroken, InitWrites, InitBreaks, InitLacks, Inits, name_line}
 use Rattle.cite_cli.specs.Verify.{IsVerify, Verifies, VerifyWrites, VerifyBreaks, VerifyLacks, Carries, verify_text}
 use Rattle.cite_cli.specs.Run.{status_of, IsRun, Answers}
-use Rattle.cite_cli.specs.Run.IsRun.{BySelect, ByInit, ByVerify}
+use Rattle.cite_cli.specs.Run.IsRun.{BySelect, ByInit, ByVerify, BySession}
 use Rattle.cite_cli.specs.Completing.{IsFaultless, IsDoneWith, InitCompletes, VerifyCompletes}
 
 first_of : (a b : List ℕ) (ws vs : List (List ℕ)) → a ∷ ws ≡ b ∷ vs → a ≡ b
@@ -56,6 +56,8 @@ by_init words seen disk ending dataset columns (ByInit d cs form did) is =
     subst (λ (x : Dataset). Inits x columns seen disk ending) p (subst (λ (x : List Column). Inits d x seen disk ending) q did)
 by_init words seen disk ending dataset columns (ByVerify form did) is =
     absurd (verify_no_more (codes "verify") (codes "init") dataset.prefix (dataset.publisher ∷ dataset.creator ∷ dataset.title ∷ is.first ∷ is.more) (sym form ∙ is.words_are))
+by_init words seen disk ending dataset columns (BySession form did) is =
+    absurd (verify_no_more (codes "session") (codes "init") dataset.prefix (dataset.publisher ∷ dataset.creator ∷ dataset.title ∷ is.first ∷ is.more) (sym form ∙ is.words_are))
 
 by_verify : (words : List (List ℕ)) (seen : Seen) (disk : OnDisk) (ending : Ending) → IsRun words seen disk ending → IsVerify words → Verifies seen disk ending
 by_verify words seen disk ending (BySelect column bounds form apart did) is =
@@ -63,6 +65,9 @@ by_verify words seen disk ending (BySelect column bounds form apart did) is =
 by_verify words seen disk ending (ByInit d cs form did) is =
     absurd (verify_no_more (codes "verify") (codes "init") d.prefix (d.publisher ∷ d.creator ∷ d.title ∷ form.first ∷ form.more) (sym is ∙ form.words_are))
 by_verify words seen disk ending (ByVerify form did) is = did
+by_verify words seen disk ending (BySession form did) is =
+    let same : 7 ≡ 6 = ap length (first_of (codes "session") (codes "verify") [] [] (sym form ∙ is)) in
+    absurd (omega (arith, same))
 
 no_rule : (f : FoundEntry) (fault : FoundFault) → IsUnbroken f → found_fault f.dataset f.columns f.stamp ≡ Some fault → ⊥
 no_rule f fault none some = absurd (cc)
@@ -81,6 +86,8 @@ module _ (f : FoundEntry) (disk : OnDisk) (seen : Seen) (unbroken : IsUnbroken f
   whole_init endings.NotArchive bytes writes holds = absurd writes
   whole_init endings.NoMemory bytes writes holds = absurd writes
   whole_init endings.TooLong bytes writes holds = absurd writes
+  whole_init endings.Cut bytes writes holds = absurd writes
+  whole_init endings.Broken bytes writes holds = absurd writes
 
   init_ends : (ending : Ending) → IsFaultless seen disk → Ends (InitWrites f disk) (InitBreaks f disk) (InitLacks disk) seen ending → IsDoneWith (name_line f.dataset) seen (status_of ending)
   init_ends ending well (Whole bytes writes holds) = whole_init ending bytes writes holds
@@ -107,6 +114,8 @@ module _ (disk : OnDisk) (seen : Seen) (history : List Entry) (a : Archive) (lea
   whole_verify endings.DiskFault bytes writes holds = absurd writes
   whole_verify endings.NoMemory bytes writes holds = absurd writes
   whole_verify endings.TooLong bytes writes holds = absurd writes
+  whole_verify endings.Cut bytes writes holds = absurd writes
+  whole_verify endings.Broken bytes writes holds = absurd writes
 
   verify_ends : (ending : Ending) → IsFaultless seen disk → Ends (VerifyWrites disk) (VerifyBreaks disk) (VerifyLacks disk) seen ending → IsDoneWith (verify_text a) seen (status_of ending)
   verify_ends ending well (Whole bytes writes holds) = whole_verify ending bytes writes holds

@@ -2,7 +2,7 @@
 use Rattle.std.proofs.Common.{◌≡◌, ◌+◌, ◌-◌, ℕ, List, [], ◌∷◌, ◌++◌, Option, None, Some, ap, sym, ◌∙◌, append_assoc, append-nil, take, drop, length, length-drop}
 use Rattle.std.proofs.Math.Seq.{take-length, take-add}
 use Rattle.cite_ports.specs.Ports.{EndsExactly, Gives, Holds}
-use Rattle.cite_cli.specs.Streams.{AllTaken, Taken}
+use Rattle.cite_conversation.specs.Streams.{AllTaken, Taken}
 
 pub holds_more : (a b c : Option (List ℕ)) (xs ys : List ℕ) → Holds xs a b → Holds ys b c → Holds (xs ++ ys) a c
 holds_more None b c xs ys p q = tt

@@ -3,6 +3,7 @@ pub mod Completing
 pub mod Select
 pub mod Init
 pub mod Verify
+pub mod Session
 pub mod Seen
 pub mod Refusals
 pub mod Parts

@@ -10,7 +10,7 @@ use Rattle.cite_cli.specs.declared.ending.Ending.TheVariants as endings
 use Rattle.cite_cli.specs.declared.output.Due.{Due}
 use Rattle.cite_cli.specs.declared.output.Due.TheVariants as dues
 use Rattle.cite_cli.specs.declared.words.InitWords.{InitWords}
-use Rattle.cite_cli.specs.Streams.{PutsFront}
+use Rattle.cite_conversation.specs.Streams.{PutsFront}
 use Rattle.cite_cli.specs.Seen.{OnDisk}
 use Rattle.cite_cli.specs.Init.{said_column, InitWrites, InitBreaks, InitLacks}
 use Rattle.cite_cli.specs.Verify.{citation_line, VerifyWrites, VerifyBreaks, VerifyLacks}

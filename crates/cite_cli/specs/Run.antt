@@ -3,14 +3,15 @@ use Rattle.std.specs.Prelude.{◌≡◌, ◌≤◌, ◌⊎◌, List, ℕ, length
 use Rattle.cite_ports.specs.Ports.{Holds, Rose}
 use Rattle.cite_schema.specs.declared.schema.Column.{Column}
 use Rattle.cite_schema.specs.declared.dataset.Dataset.{Dataset}
-use Rattle.cite_cli.specs.Streams.{Taken, AllTaken, PutsFront}
+use Rattle.cite_conversation.specs.Streams.{Taken, AllTaken, PutsFront}
 use Rattle.cite_cli.specs.Seen.{Seen, OnDisk, IsUntaken, IsSilent, IsTimeless}
 use Rattle.cite_cli.specs.Select.{IsSelect, IsFullResult, IsRefusal, IsDue}
 use Rattle.cite_cli.specs.Init.{IsInit, Inits}
 use Rattle.cite_cli.specs.Verify.{IsVerify, Verifies}
+use Rattle.cite_cli.specs.Session.{IsSession, Sessions}
 use Rattle.cite_cli.specs.declared.bounds.Bounds.{Bounds}
 use Rattle.cite_cli.specs.declared.ending.Ending.{Ending}
-use Rattle.cite_cli.specs.declared.ending.Ending.TheVariants.{Done, Usage, ReadFault, WriteFault, DiskFault, NotArchive, Occupied, NoMemory, TooLong, Refused}
+use Rattle.cite_cli.specs.declared.ending.Ending.TheVariants.{Done, Usage, ReadFault, WriteFault, DiskFault, NotArchive, Occupied, NoMemory, TooLong, Refused, Cut, Broken}
 
 -- the whole input was taken, and it is short enough
 abbrev pub TookAll : List ℕ → Seen → Type 0
@@ -29,6 +30,8 @@ Selects column bounds seen Usage = ⊥
 Selects column bounds seen DiskFault = ⊥
 Selects column bounds seen NotArchive = ⊥
 Selects column bounds seen Occupied = ⊥
+Selects column bounds seen Cut = ⊥
+Selects column bounds seen Broken = ⊥
 
 -- the status that tells an ending
 abbrev pub status_of : Ending → ℕ
@@ -42,6 +45,8 @@ status_of Occupied = 7
 status_of NoMemory = 8
 status_of TooLong = 9
 status_of Refused = 10
+status_of Cut = 11
+status_of Broken = 12
 
 -- neither the disk nor the clock was asked
 pub record IsApart (seen : Seen) (disk : OnDisk) : Type 0 where
@@ -53,6 +58,7 @@ pub record HaveNoForm (words : List (List ℕ)) : Type 0 where
   pub no_select : (column : List ℕ) (bounds : Bounds) → IsSelect words column bounds → ⊥
   pub no_init : (dataset : Dataset) (columns : List Column) → IsInit words dataset columns → ⊥
   pub no_verify : IsVerify words → ⊥
+  pub no_session : IsSession words → ⊥
 
 -- and nothing was taken, written or asked for
 pub record IsUsage (words : List (List ℕ)) (seen : Seen) (disk : OnDisk) : Type 0 where
@@ -66,6 +72,7 @@ pub data IsRun (words : List (List ℕ)) (seen : Seen) (disk : OnDisk) (ending :
   BySelect : (column : List ℕ) (bounds : Bounds) → IsSelect words column bounds → IsApart seen disk → Selects column bounds seen ending → IsRun words seen disk ending
   ByInit : (dataset : Dataset) (columns : List Column) → IsInit words dataset columns → Inits dataset columns seen disk ending → IsRun words seen disk ending
   ByVerify : IsVerify words → Verifies seen disk ending → IsRun words seen disk ending
+  BySession : IsSession words → Sessions seen disk ending → IsRun words seen disk ending
 
 -- status 2 exactly where the words have no form, and else as the ending says
 abbrev pub Answers : List (List ℕ) → Seen → OnDisk → ℕ → Type 0

@@ -5,7 +5,7 @@ use Rattle.cite_disk.specs.Device.{LeavesOnly, Quiet}
 use Rattle.archive_journal.specs.Records.{Shut}
 use Rattle.entry_codec.specs.declared.entry.Entry.{Entry}
 use Rattle.archive_core.specs.Keeping.{payloads_of}
-use Rattle.cite_cli.specs.Streams.{PutsFront}
+use Rattle.cite_conversation.specs.Streams.{PutsFront}
 use Rattle.cite_cli.specs.declared.ending.Ending.{Ending}
 use Rattle.cite_cli.specs.declared.ending.Ending.TheVariants as endings
 

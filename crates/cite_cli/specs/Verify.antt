@@ -78,6 +78,15 @@ pub record IsUnopened (disk : OnDisk) (line : List ℕ) : Type 0 where
   pub none : disk.honest → CarriesNone disk.before
   pub quiet : disk.honest → disk.quiet
 
+-- what there is to write where the disk can't be opened
+abbrev pub UnopenedWrites : OnDisk → Ending → List ℕ → Type 0
+UnopenedWrites disk endings.NotArchive bytes = IsUnopened disk bytes
+UnopenedWrites disk ending bytes = ⊥
+
+-- the disk was only read
+abbrev pub IsQuiet : OnDisk → Type 0
+IsQuiet disk = disk.honest → disk.quiet
+
 -- what there is to write, by the ending
 abbrev pub VerifyWrites : OnDisk → Ending → List ℕ → Type 0
 VerifyWrites disk endings.Done bytes = IsVerified disk bytes

@@ -7,10 +7,11 @@ use crate::bounds::Bounds;
 use crate::ending::{Ending, status};
 use crate::init::init;
 use crate::input::{Stop, take_all};
-use crate::output::put_all;
 use crate::select::{Output, select_output};
+use crate::session::session;
 use crate::verify::verify;
-use crate::words::{init_words, is_verify, select_words};
+use crate::words::{init_words, is_session, is_verify, select_words};
+use cite_conversation::put_all;
 use cite_disk::Disk;
 use cite_ports::{Clock, Sink, Source};
 use cite_schema::NoMemory;
@@ -67,6 +68,9 @@ pub fn run<R: Threads + Sync, S: Source, K: Sink, D: Disk, C: Clock>(
     }
     if is_verify(words) {
         return status(verify(alloc, sink, disk));
+    }
+    if is_session(words) {
+        return status(session(alloc, source, sink, disk, clock));
     }
     status(Ending::Usage)
 }

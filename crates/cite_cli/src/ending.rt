@@ -21,10 +21,14 @@ pub enum Ending {
     Occupied,
     /// Want of memory.
     NoMemory,
-    /// The input is longer than 67,108,864 bytes.
+    /// The input is longer than 67,108,864 bytes, or that of a session has 4,294,967,296 bytes and no message of it closes.
     TooLong,
     /// The input, the words or the moment break a rule; the line names it.
     Refused,
+    /// The input of a session ends inside a message.
+    Cut,
+    /// A message of a session could not be told from what follows it; that is answered.
+    Broken,
 }
 
 /// The status that tells an ending.
@@ -42,5 +46,7 @@ pub fn status(ending: Ending) -> u8
         Ending::NoMemory => 8,
         Ending::TooLong => 9,
         Ending::Refused => 10,
+        Ending::Cut => 11,
+        Ending::Broken => 12,
     }
 }

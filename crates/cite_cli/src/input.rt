@@ -1,6 +1,7 @@
 // The whole input of a command.
 ghost use Rattle.std.specs.Prelude.{◌≡◌, ◌≤◌, length, IfOk, IfErr};
-ghost use Rattle.cite_cli.specs.Streams.{AllTaken, StopsBecause};
+ghost use Rattle.cite_conversation.specs.Streams.{AllTaken};
+ghost use Rattle.cite_cli.specs.Streams.{StopsBecause};
 
 use cite_ports::Source;
 use std::alloc::Global;

@@ -1,12 +1,11 @@
 // The output of a command.
-ghost use Rattle.std.specs.Prelude.{◌≡◌, ◌≤◌, OnOk, OnErr, MatchResult};
-ghost use Rattle.cite_ports.specs.Ports.{Holds, Rose};
-ghost use Rattle.cite_cli.specs.Streams.{PutsFront};
+ghost use Rattle.std.specs.Prelude.{◌≡◌, MatchResult};
 ghost use Rattle.cite_cli.specs.Parts.{Delivers};
 ghost use Rattle.cite_cli.specs.declared.output.Due.TheVariants as dues;
 
 use crate::ending::Ending;
-use cite_ports::{Failed, Sink};
+use cite_conversation::put_all;
+use cite_ports::Sink;
 use cite_schema::{ByteText, NoMemory};
 
 /// What a command has to write and how it then ends, or why there is nothing.
@@ -44,18 +43,4 @@ impl Due {
             Due::NoMemory => Ending::NoMemory,
         }
     }
-}
-
-/// Puts all the bytes into the sink. Each turn puts a byte or ends, and the cost is linear in the bytes.
-pub fn put_all<K: Sink>(sink: &mut K, bytes: &[u8]) -> Result<(), Failed>
-    ensures all { OnOk result (Holds bytes.now (K.written sink.old) (K.written sink.new)) }
-    ensures never_falls { K.faults_of sink.old ≤ K.faults_of sink.new }
-    ensures cause { OnErr result (Rose (K.faults_of sink.old) (K.faults_of sink.new)) }
-    ensures front { OnErr result (PutsFront bytes.now (K.written sink.old) (K.written sink.new)) }
-{
-    let mut at = 0;
-    while at < bytes.len() {
-        at += sink.put(&bytes[at..])?;
-    }
-    Ok(())
 }

@@ -13,8 +13,9 @@ ghost use Rattle.cite_cli.specs.Verify.{counts, verify_text, LosesNothing, Verif
 ghost use Rattle.cite_cli.specs.Parts.{VerifyDue, AddsCitation};
 
 use crate::ending::Ending;
+use crate::opening::open;
 use crate::output::Due;
-use archive_core::{Desk, LookFault, ResumeFault, Snapshot};
+use archive_core::{LookFault, Snapshot};
 use cite_disk::Disk;
 use cite_ports::Sink;
 use cite_schema::{ByteText, NoMemory};
@@ -46,28 +47,10 @@ fn verified<D: Disk>(alloc: Global, disk: &mut D) -> Due
     ensures due { VerifyDue (on_disk D.honest D.seen D.images D.moment D.left_since D.fault_count disk.old disk.new) result }
     ensures safe { D.honest → LosesNothing (on_disk D.honest D.seen D.images D.moment D.left_since D.fault_count disk.old disk.new) }
 {
-    match Desk::resume(alloc, disk) {
+    match open(alloc, disk) {
         Ok(desk) => Due::of(Ending::Done, text_of(alloc, desk.snapshot())),
-        Err(fault) => match fault {
-            ResumeFault::NotArchive => Due::of(Ending::NotArchive, no_archive_line(alloc)),
-            ResumeFault::Damaged { at } => Due::of(Ending::NotArchive, damaged_line(alloc, at)),
-            ResumeFault::DiskFailed => Due::DiskFault,
-            ResumeFault::NoMemory => Due::NoMemory,
-        },
+        Err(due) => due,
     }
-}
-
-fn no_archive_line(alloc: Global) -> Result<ByteText, NoMemory>
-    ensures { IfOk result (λ line. line ≡ codes "NotArchive\n") }
-{
-    Ok(ByteText::from_slice(alloc, b"NotArchive\n")?)
-}
-
-fn damaged_line(alloc: Global, at: u64) -> Result<ByteText, NoMemory>
-    ensures { IfOk result (λ line. line ≡ codes "Damaged " ++ decimal at ++ codes "\n") }
-{
-    let line = format!(in alloc; "Damaged {at}\n")?;
-    Ok(ByteText::from_vec(line.into_bytes()))
 }
 
 // What is told of an archive that readers see.

@@ -6,6 +6,7 @@ ghost use Rattle.cite_cli.specs.declared.bounds.Bounds.{Bounds as Read};
 ghost use Rattle.cite_cli.specs.Select.{IsSelect};
 ghost use Rattle.cite_cli.specs.Init.{IsInit};
 ghost use Rattle.cite_cli.specs.Verify.{IsVerify};
+ghost use Rattle.cite_cli.specs.Session.{IsSession};
 
 use crate::bounds::Bounds;
 
@@ -74,6 +75,16 @@ pub fn is_verify(words: &[String]) -> bool
         return false;
     };
     says(command, "verify")
+}
+
+/// Whether the one word is `session`.
+pub fn is_session(words: &[String]) -> bool
+    ensures { IsTrue result ↔ IsSession (map string_bytes words.now) }
+{
+    let [command] = words else {
+        return false;
+    };
+    says(command, "session")
 }
 
 fn says(word: &String, name: &str) -> bool

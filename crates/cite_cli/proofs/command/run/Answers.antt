@@ -1,7 +1,7 @@
 use Rattle.std.proofs.Common.{◌≡◌, refl, inl, inr, subst, map, List, String, Global, false, true}
 use Rattle.std.specs.Prelude.{string_bytes}
 use Rattle.cite_cli.specs.Run.{HaveNoForm}
-use Rattle.cite_cli.specs.Run.IsRun.{BySelect, ByInit, ByVerify}
+use Rattle.cite_cli.specs.Run.IsRun.{BySelect, ByInit, ByVerify, BySession}
 use Rattle.cite_cli.specs.Parts.{told_by, columns_by}
 use Rattle.cite_cli.proofs.command.run.Goals as goal
 
@@ -21,12 +21,17 @@ returns-then-is_verify g c =
     let source = c.args.source.now in
     inr (c.verify.result, c.status-then-is_verify.ensures, ByVerify (rw c.as_slice-words.ensures.value at (c.if-is_verify.ensures.0 refl)) (c.verify.ensures (g.S.Source.left source) (g.C.Clock.given c.args.clock.now) (g.S.Source.faults_of source)))
 
+pub returns-then-is_session : goal.returns-then-is_session
+returns-then-is_session g c =
+    inr (c.session.result, c.status-then-is_session.ensures, BySession (rw c.as_slice-words.ensures.value at (c.if-is_session.ensures.0 refl)) c.session.ensures)
+
 pub returns : goal.returns
 returns g c =
     let none : HaveNoForm (map string_bytes c.as_slice-words.result.now) = record {
       no_select = c.in_default.ensures;
       no_init = c.in_default-init_words.ensures;
       no_verify = λ is. let e : false ≡ true = c.if-is_verify.ensures.1 is in absurd (cc);
+      no_session = λ is. let e : false ≡ true = c.if-is_session.ensures.1 is in absurd (cc);
     } in
     inl (
       c.status-2.ensures,

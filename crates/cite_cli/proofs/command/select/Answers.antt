@@ -1,7 +1,7 @@
 use Rattle.std.proofs.Common.{List, ℕ, inl, inr, subst}
 use Rattle.cite_cli.specs.declared.select.Output.{Output}
 use Rattle.cite_cli.specs.Parts.{Explains}
-use Rattle.cite_cli.specs.Streams.{PutsFront}
+use Rattle.cite_conversation.specs.Streams.{PutsFront}
 use Rattle.cite_cli.specs.Select.{IsDue}
 use Rattle.cite_cli.proofs.command.select.Goals as goal
 

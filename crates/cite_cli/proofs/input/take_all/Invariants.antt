@@ -1,5 +1,5 @@
 use Rattle.std.proofs.Common.{◌-◌, ◌≤◌, length}
-use Rattle.cite_cli.specs.Streams.{Taken}
+use Rattle.cite_conversation.specs.Streams.{Taken}
 use Rattle.cite_cli.proofs.input.take_all.Given as goal
 
 abbrev pub invariant-loop-buffer : goal.invariant-loop-buffer

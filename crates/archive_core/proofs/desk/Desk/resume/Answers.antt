@@ -6,7 +6,7 @@ use Rattle.archive_journal.specs.declared.journal.JournalFault.TheVariants as fa
 use Rattle.archive_journal.specs.Records.{Between, Shut}
 use Rattle.entry_codec.specs.Payloads.{payload}
 use Rattle.archive_core.specs.Keeping.{payloads_of}
-use Rattle.archive_core.proofs.Opened.{opened_kept, opening_idle, opening_leaves, opens, only_then, quiet_leaves, walked_length, walked_stands}
+use Rattle.archive_core.proofs.Opened.{opened_kept, opening_idle, opening_leaves, opens, resumes, only_then, quiet_leaves, walked_length, walked_stands}
 use Rattle.archive_core.proofs.desk.Desk.resume.Goals as goal
 
 pub returns-in-NotArchive-clause-not_archive : goal.returns-in-NotArchive-clause-not_archive
@@ -26,6 +26,7 @@ returns-in_default g c =
     record {
       opens = tt;
       kept = tt;
+      resumes = tt;
       ready = tt;
       not_archive = λ e. absurd (cc);
       damaged = λ at e. absurd (cc);
@@ -82,16 +83,19 @@ invariant_of-result g c =
       counted = c.in-Ok-finish.ensures.settled.1 ∙ walked_length k.honest (k.seen c.follow.new.disk) c.follow.new.walk c.in-Ok-follow.follower c.in-Some.present c.in-Ok-follow.ensures.walked some;
     }
 
+pub returns-in-Ok-finish-clause-resumes : goal.returns-in-Ok-finish-clause-resumes
+returns-in-Ok-finish-clause-resumes g c =
+    let k = g.D.Disk in
+    let mid = c.follow.new.disk in
+    let only : k.honest → Only (k.seen mid) (k.images mid) = λ honest. only_then k.seen k.images k.moment k.left_since k.honest honest c.begin.new.disk mid (c.in-Ok.ensures.durable honest) (c.in-Ok-follow.ensures.quiet honest) in
+    resumes k.honest (k.seen c.args.disk.now) (k.seen mid) (k.images c.finish.new.disk) c.follow.new.walk c.in-Ok-follow.follower _ (λ honest. (c.in-Ok-follow.ensures.quiet honest).same ∙ (c.in-Ok.ensures.quiet honest).same) c.in-Ok-follow.ensures.walked
+    (sym c.into_present.ensures ∙ c.in-Some.is) c.in-Ok-follow.ensures.end c.in-Ok-finish.ensures.settled.0
+    (λ honest ps p is. c.in-Ok-finish.ensures.stands honest ps p (only honest) is)
+
 pub returns-in-Ok-finish-clause-opens : goal.returns-in-Ok-finish-clause-opens
 returns-in-Ok-finish-clause-opens g c = λ honest.
     let k = g.D.Disk in
-    let mid = c.follow.new.disk in
-    let first = c.in-Ok.ensures.quiet honest in
-    let second = c.in-Ok-follow.ensures.quiet honest in
-    let only : Only (k.seen mid) (k.images mid) = only_then k.seen k.images k.moment k.left_since k.honest honest c.begin.new.disk mid (c.in-Ok.ensures.durable honest) second in
-    opens k.honest (k.seen c.args.disk.now) (k.seen mid) (k.images c.finish.new.disk) c.follow.new.walk c.in-Ok-follow.follower _ honest (second.same ∙ first.same) c.in-Ok-follow.ensures.walked
-    (sym c.into_present.ensures ∙ c.in-Some.is) c.in-Ok-follow.ensures.end c.in-Ok-finish.ensures.settled.0
-    (λ ps p is. c.in-Ok-finish.ensures.stands honest ps p only is)
+    opens k.honest (k.seen c.args.disk.now) (k.images c.finish.new.disk) _ honest (returns-in-Ok-finish-clause-resumes g c)
 
 pub returns-in-Ok-finish-clause-kept : goal.returns-in-Ok-finish-clause-kept
 returns-in-Ok-finish-clause-kept g c = λ honest.

@@ -1,7 +1,7 @@
 use Rattle.std.proofs.Common.{arith, length-drop, List, ℕ, subst}
 use Rattle.cite_ports.specs.Ports.{Holds}
-use Rattle.cite_cli.proofs.Streaming.{holds_more, front_more, rest_whole}
-use Rattle.cite_cli.proofs.output.put_all.Goals as goal
+use Rattle.cite_conversation.proofs.Streaming.{holds_more, front_more, rest_whole}
+use Rattle.cite_conversation.proofs.output.put_all.Goals as goal
 
 pub loop-at-preserved : goal.loop-at-preserved
 loop-at-preserved g c = record {

@@ -1,6 +1,6 @@
 use Rattle.std.proofs.Common.{◌-◌, ◌≤◌, length, take}
 use Rattle.cite_ports.specs.Ports.{Holds}
-use Rattle.cite_cli.proofs.output.put_all.Given as goal
+use Rattle.cite_conversation.proofs.output.put_all.Given as goal
 
 abbrev pub invariant-loop-at : goal.invariant-loop-at
 invariant-loop-at g l = record {

@@ -1,0 +1,9 @@
+pub mod Outcomes
+pub mod Carrying
+pub mod Reaching
+pub mod Askable
+pub mod Faring
+pub mod Leaving
+pub mod Streaming
+pub mod Passing
+pub mod Ending

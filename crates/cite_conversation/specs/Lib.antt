@@ -1,0 +1,4 @@
+pub mod Turns
+pub mod Streams
+pub mod Conversations
+pub mod Steps
