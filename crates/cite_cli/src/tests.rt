@@ -1,6 +1,7 @@
 // The commands over a source, a sink, a disk and a clock in memory: `select` here, the others beside it.
 mod archives;
 mod foundings;
+mod sessions;
 
 use crate::command::run;
 use cite_disk::{Disk, MemoryDisk};
@@ -231,7 +232,7 @@ const LINES: [Refused; 12] = [
     ),
 ];
 
-const NO_FORM: [&[&str]; 18] = [
+const NO_FORM: [&[&str]; 19] = [
     &[],
     &["select"],
     &["select", "depth", "10"],
@@ -246,7 +247,8 @@ const NO_FORM: [&[&str]; 18] = [
     &["Init", "10.5072", "Lab", "Rey, A.", "Depths", "sid:int"],
     &["verify", "now"],
     &["Verify"],
-    &["session"],
+    &["session", "now"],
+    &["Session"],
     &["load", "1"],
     &["load"],
     &[""],
