@@ -22,21 +22,24 @@ use std::thread::Threads;
 ///
 /// - 0: all is written: the result of `select COLUMN LO HI`, for which the input was read to its end; the name of the
 ///   archive that `init PREFIX PUBLISHER CREATOR TITLE COLUMN..` founded on the disk; what `verify` tells of the disk's
-///   archive;
+///   archive; the responses of a `session`, whose input ended between two messages, or with one that closes;
 /// - 2: the words have no form; nothing is taken, written or asked for;
-/// - 3: the source failed; nothing is written;
+/// - 3: the source failed; nothing is written, but by `session` what was answered before;
 /// - 4: the sink failed; a front of what was due is written;
-/// - 5: the disk failed; nothing is written;
+/// - 5: the disk failed, of a `session` in opening; nothing is written;
 /// - 6: the disk has no archive that can be opened, and the line `NotArchive` or `Damaged` with the place is written;
 /// - 7: `init` found a disk that holds something, and the line `Occupied` is written;
-/// - 8: want of memory; nothing is written;
-/// - 9: 67,108,865 bytes were taken; nothing is written;
+/// - 8: want of memory; nothing is written, but by a `session` that was opened;
+/// - 9: 67,108,865 bytes were taken and nothing is written, or by `session` 4,294,967,296, of which no message closes;
 /// - 10: the input of `select`, or the words or the moment of `init`, break a rule, and the line `Refused NAME` with the
-///   rule's numbers is written.
+///   rule's numbers is written;
+/// - 11: the input of `session` ended inside a message; what came before it is answered;
+/// - 12: `session` answered a message that can't be told from what follows it.
 ///
 /// `select` asks neither the disk nor the clock, `init` takes one moment, and `verify` none; both take nothing of the
-/// source. It returns for every input: `select` after one pass over the input and n log n in its lines, `verify` after one
-/// pass over the disk and what its entries and citations cost.
+/// source. `session` takes a moment for each batch, and for each citation and migration whose body it can read. It returns
+/// for every input: `select` after one pass over the input and n log n in its lines, `verify` after one pass over the disk
+/// and what its entries and citations cost, `session` after that pass and what its answers cost.
 pub fn run<R: Threads + Sync, S: Source, K: Sink, D: Disk, C: Clock>(
     _rt: &R,
     alloc: Global,

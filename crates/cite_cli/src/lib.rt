@@ -2,8 +2,9 @@
 //!
 //! `run` reads the words and does what they say: `select` takes the input, reads the table of its lines, and writes the
 //! result of the query that the words ask; `init` founds an archive on the disk; `verify` opens the disk's archive and
-//! tells what each of its citations resolves to; `session` opens it and answers messages of HTTP. Its one clause tells, for each status, what was taken, asked for and
-//! written, what the disk holds, and why: the definitions stand in `specs/`, from `Run` down to `Streams`.
+//! tells what each of its citations resolves to; `session` opens it and answers messages of HTTP. Its one clause tells, for
+//! each status, what was taken, asked for and written, what the disk holds, and why: the definitions stand in `specs/`, from
+//! `Run` down to `Streams`.
 #![tactic(auto)]
 
 mod asking;
