@@ -4,10 +4,12 @@
 mod asks;
 mod citing;
 mod crashes;
+mod following;
 mod kept;
 mod lengths;
 mod limits;
 mod migrating;
 mod mixed;
+mod opening;
 mod refusals;
 mod sessions;
