@@ -4,6 +4,7 @@
 mod asks;
 mod citing;
 mod crashes;
+mod failing;
 mod following;
 mod kept;
 mod lengths;
