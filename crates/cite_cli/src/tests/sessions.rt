@@ -16,7 +16,11 @@ const BATCH: &[u8] =
 const CITE: &[u8] =
     b"POST /cite HTTP/1.1\r\nHost: localhost\r\nContent-Length: 158\r\n\r\n{\"meta\":{\"creators\":[\"Rey, A.\"],\"title\":\"Mid depths\"},\"query\":{\"items\":[{\"column\":\"sid\"},{\"column\":\"depth\"}],\"where\":{\"depth\":{\"and\":[{\"ge\":10},{\"lt\":20}]}}}}";
 
-// Its landing page is asked for.
+// A message that is cut inside its body.
+const HALF: &[u8] =
+    b"POST /cite HTTP/1.1\r\nHost: localhost\r\nContent-Length: 158\r\n\r\n{\"meta\":{\"creators\":[\"Rey, A.\"]";
+
+// The landing page of the citation is asked for.
 const PAGE: &[u8] = b"GET /id/10.5072/c1 HTTP/1.1\r\nHost: localhost\r\n\r\n";
 
 // Its bytes are asked for, by another spelling of its name.
@@ -170,7 +174,7 @@ fn an_input_that_is_cut_inside_a_message(rt: HostRuntime) -> Result<(), Fail> {
     let alloc = rt.alloc();
     answers_anew(&rt, alloc, &[b"G"], 11, &[])?;
     answers_anew(&rt, alloc, &[b"GET /state HTTP/1.1\r\n"], 11, &[])?;
-    answers_anew(&rt, alloc, &[BATCH, &CITE[..200]], 11, &[STORED])
+    answers_anew(&rt, alloc, &[BATCH, HALF], 11, &[STORED])
 }
 
 // Nothing behind it is read.
