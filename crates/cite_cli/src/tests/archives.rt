@@ -100,6 +100,26 @@ fn add_two<D: Disk>(
     Ok(desk.entries())
 }
 
+// The same of a batch with this number and body, and of the rows with depths from 10 on and below 20.
+fn add<D: Disk>(
+    alloc: Global,
+    disk: &mut D,
+    desk: &mut Desk,
+    number: u32,
+    body: &[u8],
+) -> Result<u64, Refused>
+    requires { D.honest → IsKept (D.images disk.old) desk.old }
+    ensures { D.honest → IsKept (D.images disk.new) desk.new }
+{
+    let Ok(ask) = batch(alloc, number, body) else {
+        return Err(Refused::NoMemory);
+    };
+    let Ok(cite) = depths(alloc) else {
+        return Err(Refused::NoMemory);
+    };
+    add_two(alloc, disk, desk, &ask, &cite)
+}
+
 // A disk with an archive of five entries that fails these calls from now on.
 fn filled<R: Threads + Sync + Abort>(
     rt: &R,
@@ -109,11 +129,16 @@ fn filled<R: Threads + Sync + Abort>(
     let mut disk = disk_of(alloc, b"", &[], u64::MAX)?;
     gives(rt, alloc, FOUNDING, &mut disk, MOMENT, (0, b"10.5072/d1\n"))?;
     let mut desk = Desk::resume(alloc, &mut disk)?;
-    let cite = depths(alloc)?;
-    let first = batch(alloc, 1, b"op,sid,depth\n+,1,5\n+,2,12\n")?;
-    assert_eq!(rt; add_two(alloc, &mut disk, &mut desk, &first, &cite)?, 3);
-    let second = batch(alloc, 2, b"op,sid,depth\n~,2,30\n")?;
-    assert_eq!(rt; add_two(alloc, &mut disk, &mut desk, &second, &cite)?, 5);
+    let first = add(
+        alloc,
+        &mut disk,
+        &mut desk,
+        1,
+        b"op,sid,depth\n+,1,5\n+,2,12\n",
+    )?;
+    assert_eq!(rt; first, 3);
+    let second = add(alloc, &mut disk, &mut desk, 2, b"op,sid,depth\n~,2,30\n")?;
+    assert_eq!(rt; second, 5);
     disk_of(alloc, disk.bytes(), fails, u64::MAX)
 }
 
@@ -247,9 +272,8 @@ fn an_archive_with_a_spoilt_record(rt: HostRuntime) -> Result<(), Fail> {
 fn seven<R: Threads + Sync + Abort>(rt: &R, alloc: Global) -> Result<Vec<u8>, Fail> {
     let mut disk = filled(rt, alloc, &[])?;
     let mut desk = Desk::resume(alloc, &mut disk)?;
-    let third = batch(alloc, 3, b"op,sid,depth\n+,3,15\n")?;
-    let cite = depths(alloc)?;
-    assert_eq!(rt; add_two(alloc, &mut disk, &mut desk, &third, &cite)?, 7);
+    let third = add(alloc, &mut disk, &mut desk, 3, b"op,sid,depth\n+,3,15\n")?;
+    assert_eq!(rt; third, 7);
     Ok(disk.bytes().to_vec(alloc)?)
 }
 

@@ -147,26 +147,6 @@ fn a_wrong_word_is_refused(rt: HostRuntime) -> Result<(), Fail> {
     Ok(())
 }
 
-// As many columns as a schema may have, and one more.
-#[test]
-fn a_founding_of_many_columns(rt: HostRuntime) -> Result<(), Fail> {
-    let alloc = rt.alloc();
-    let mut names = Vec::new(alloc);
-    for place in 0..65 {
-        names.push(format!(in alloc; "c{place}:int")?)?;
-    }
-    let mut words = ["init", "10.5072", "Lab", "Rey, A.", "Depths"].to_vec(alloc)?;
-    for name in &names {
-        words.push(name.as_str())?;
-    }
-    let mut disk = disk_of(alloc, b"", &[], u64::MAX)?;
-    let refused = (10, b"Refused TooManyColumns\n".as_slice());
-    gives(&rt, alloc, words.as_slice(), &mut disk, MOMENT, refused)?;
-    let _last = words.pop();
-    let done = (0, b"10.5072/d1\n".as_slice());
-    gives(&rt, alloc, words.as_slice(), &mut disk, MOMENT, done)
-}
-
 // The first moment that has no stamp, and the one before it.
 #[test]
 fn a_moment_out_of_range_is_refused(rt: HostRuntime) -> Result<(), Fail> {
