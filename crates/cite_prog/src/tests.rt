@@ -152,12 +152,17 @@ fn an_archive_on_a_file(rt: HostRuntime) -> Result<(), Fail> {
     let _ = std::fs::remove_file(&rt, path);
     let founding = ["init", "10.5072", "Lab", "Rey, A.", "Depths", "sid:int"];
     let (status, name) = over_a_file(rt, alloc, path, &founding)?;
-    assert_eq!(rt; (status, name.as_slice()), (0, b"10.5072/d1\n".as_slice()));
+    assert_eq!(rt; status, 0);
+    assert_eq!(rt; name.as_slice(), b"10.5072/d1\n".as_slice());
     let (status, counts) = over_a_file(rt, alloc, path, &["verify"])?;
-    let told = b"version 1\nschema 1\nrows 0\ncitations 0\n".as_slice();
-    assert_eq!(rt; (status, counts.as_slice()), (0, told));
+    assert_eq!(rt; status, 0);
+    assert_eq!(rt;
+        counts.as_slice(),
+        b"version 1\nschema 1\nrows 0\ncitations 0\n".as_slice()
+    );
     let (status, line) = over_a_file(rt, alloc, path, &founding)?;
-    assert_eq!(rt; (status, line.as_slice()), (7, b"Occupied\n".as_slice()));
+    assert_eq!(rt; status, 7);
+    assert_eq!(rt; line.as_slice(), b"Occupied\n".as_slice());
     let _ = std::fs::remove_file(&rt, path);
     Ok(())
 }
