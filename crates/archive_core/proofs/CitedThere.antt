@@ -45,7 +45,7 @@ pub cited_there : (a : Archive) (ask : CiteAsk) (now : ℕ) (history : List Entr
 cited_there a ask now history before after untouched old new reply stands (Stays o s none is same un) =
     there_by (arc_value new.present.snapshot) a o reply (subst (λ (w : Held). Shows (arc_value w.present.snapshot) a) (sym same) stands.agrees.shows)
     (λ cited ok. subst (λ (b : Archive). (m : Minted) × (minted_as b cited.number ≡ Some m)) (cite_keeps a ask now o s none) (cite_cited a ask now o s cited ok)) is
-cited_there a ask now history before after untouched old new reply stands (Grows o e s some is stood ready settled kept) =
+cited_there a ask now history before after untouched old new reply stands (Grows o e s some is stood ready made settled kept) =
     there_by (arc_value new.present.snapshot) o.after o reply stood.agrees.shows (cite_cited a ask now o s) is
 cited_there a ask now history before after untouched old new reply stands (Fails o e s some is same kept) =
     subst (IsThere (arc_value new.present.snapshot)) (sym is) tt

@@ -46,7 +46,7 @@ module _ {R : Type 0} (step : Outcome R → Type 0) (history : List Entry) (a : 
 
   module _ (within : untouched → (b : List ℕ) → is b → io b) where
     same_archive : new ≡ old → SameArchive old new
-    same_archive same = (ap (λ (h : Held). h.present) same, ap (λ (h : Held). h.ready) same)
+    same_archive same = (ap (λ (h : Held). h.present) same, ap (λ (h : Held). h.ready) same, ap (λ (h : Held). h.made) same)
 
     -- a call that touches nothing keeps what was kept
     keeps_still : new ≡ old → untouched → (d : Entry) → Keeps io old.journal history d → Keeps is new.journal history d
@@ -76,10 +76,10 @@ module _ {R : Type 0} (step : Outcome R → Type 0) (history : List Entry) (a : 
     answered (Ok (New made)) (Ok told) plans (adds, disk) =
         let kept : StandsFor new.present (history ++ plans.entry ∷ []) plans.outcome.after = subst (λ (p : Present). StandsFor p (history ++ plans.entry ∷ []) plans.outcome.after) (sym adds.1) plans.stands in
         let grown : payloads_of history ++ made.payload ∷ [] ≡ payloads_of (history ++ plans.entry ∷ []) = ap (λ (p : List ℕ). payloads_of history ++ p ∷ []) plans.payload_is ∙ sym (payloads_grow history plans.entry) in
-        Grows plans.outcome plans.entry plans.is plans.entry_is (ap (λ (r : R). Ok r) adds.0 ∙ sym plans.reply_is) kept (adds.2 ∙ ap (λ (p : Present). Some (arc_value p.snapshot)) (sym adds.1)) adds.3
+        Grows plans.outcome plans.entry plans.is plans.entry_is (ap (λ (r : R). Ok r) adds.0 ∙ sym plans.reply_is) kept (adds.2 ∙ ap (λ (p : Present). Some (arc_value p.snapshot)) (sym adds.1)) (adds.3 ∙ ap (λ (p : List ℕ). Some p) plans.payload_is) adds.4
         (λ d before. record {
           stands = subst (λ (ps : List (List ℕ)). DiskStands is new.journal ps (payload d)) grown (disk.wrote before.0 (payloads_of history) (payload d) before.1.stands);
-          legal = λ unsettled. absurd (unsettled adds.3);
+          legal = λ unsettled. absurd (unsettled adds.4);
         })
     answered (Ok (New made)) (Err refusal) plans (adds, disk) =
         ⊎_elim
@@ -118,7 +118,7 @@ module _ {R : Type 0} (step : Outcome R → Type 0) (history : List Entry) (a : 
   kept_after within reply d holds stands keeps (Stays o step_is none says same quiet) =
       subst (λ (h : Held). IsKept is h) (sym same)
       (record { history = history; archive = a; under_way = d; stands = stands; keeps = keeps_within io is old.journal history d (within quiet) keeps })
-  kept_after within reply d holds stands keeps (Grows o e step_is makes says grown ready settled after) =
+  kept_after within reply d holds stands keeps (Grows o e step_is makes says grown ready made settled after) =
       record { history = history ++ e ∷ []; archive = o.after; under_way = d; stands = grown; keeps = after d (holds, keeps) }
   kept_after within reply d holds stands keeps (Fails o e step_is makes says same after) =
       let here : StandsFor new.present history a = subst (λ (p : Present). StandsFor p history a) (sym same.0) stands in

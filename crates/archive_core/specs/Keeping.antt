@@ -1,6 +1,8 @@
 -- What a desk holds, and when a disk keeps its history.
-use Rattle.std.specs.Prelude.{◌≡◌, ◌≢◌, ◌⊎◌, ℕ, List, [], ◌∷◌, ◌++◌, map, Option}
+use Rattle.std.specs.Prelude.{◌≡◌, ◌≢◌, ◌⊎◌, ℕ, List, [], ◌∷◌, ◌++◌, map, Option, IfSome}
+use Rattle.std.specs.Arc.{arc_value}
 use Rattle.std.specs.List.{AllByRecursion}
+use Rattle.std.specs.declared.snapshot.Snapshot.{Snapshot as Remembered}
 use Rattle.archive_journal.specs.declared.journal.Journal.{Journal}
 use Rattle.archive_journal.specs.declared.journal.Stage.TheVariants.{Settled}
 use Rattle.archive_journal.specs.Records.{Shut, Gated}
@@ -14,16 +16,22 @@ use Rattle.archive_state.specs.declared.snapshot.Snapshot.{Snapshot}
 use Rattle.archive_state.specs.declared.present.Present.{Present}
 use Rattle.archive_state.specs.Standing.{Stands, StandsFor}
 
--- what a desk holds: what is kept, the journal, and the snapshot that nobody has taken yet
+-- the value that is remembered
+abbrev pub remembered : {A : Type 0} → Remembered A → A
+remembered s = s.value
+
+-- what a desk holds: what is kept, the journal, the snapshot that nobody has taken yet, and the payload of the last entry that was made since the archive was founded or opened
 pub record Held : Type 0 where
   pub present : Present
   pub journal : Journal
   pub ready : Option Snapshot
+  pub made : Option (List ℕ)
 
--- what is kept stands for some history, and the journal is as long as that history's
+-- what is kept stands for some history, the journal is as long as that history's, and the snapshot that nobody has taken yet is that of what is kept
 pub record IsDesk (held : Held) : Type 0 where
   pub stands : Stands held.present
   pub counted : held.journal.end ≡ held.present.journal
+  pub waits : IfSome held.ready (λ s. s ≡ arc_value held.present.snapshot)
 
 -- the payloads of a history
 abbrev pub payloads_of : List Entry → List (List ℕ)

@@ -1,5 +1,5 @@
 // The desk, where an archive's calls are made.
-ghost use Rattle.std.specs.Prelude.{◌≡◌, ◌≢◌, ◌≤◌, ◌<◌, ◌++◌, ◌∷◌, [], None, Some as some, List as Listed, ℕ, length, IfOk, IfErr, IsErrOf, OnOk, OnErr};
+ghost use Rattle.std.specs.Prelude.{◌≡◌, ◌≢◌, ◌≤◌, ◌<◌, ◌++◌, ◌∷◌, [], None, Some as some, List as Listed, ℕ, length, IfOk, IfErr, IfSome, IsErrOf, OnOk, OnErr};
 ghost use Rattle.std.specs.Arc.{arc_value};
 ghost use Rattle.std.specs.Option.{option_map};
 ghost use Rattle.cite_disk.specs.Device.{LeavesOnly, RoseBy, Quiet};
@@ -22,7 +22,7 @@ use archive_journal::{Journal, JournalFault};
 use archive_model::{Cited, FoundFault, Moved, Refused, Stored};
 use archive_state::{Present, Snapshot};
 use cite_disk::Disk;
-use cite_schema::{BatchAsk, CiteAsk, Column, Dataset, List, Step};
+use cite_schema::{BatchAsk, ByteText, CiteAsk, Column, Dataset, List, Step};
 use std::alloc::Global;
 use std::marker::Model;
 use std::sync::Arc;
@@ -39,12 +39,14 @@ pub struct Desk {
     pub(crate) present: Present,
     pub(crate) journal: Journal,
     pub(crate) ready: Option<Arc<Snapshot>>,
+    // The payload of the last entry that was made since the archive was founded or opened, which only clauses read.
+    pub(crate) made: Option<std::snapshot::Snapshot<ByteText>>,
 }
 
 impl Model for Desk {
     ghost use Rattle.std.specs.Arc.{arc_value};
     ghost use Rattle.std.specs.Option.{option_map};
-    ghost use Rattle.archive_core.specs.Keeping.{Held, IsDesk};
+    ghost use Rattle.archive_core.specs.Keeping.{Held, IsDesk, remembered};
     ghost use Rattle.std.specs.Coded.{codes};
     ghost use Rattle.cite_schema.specs.contracts.condition.Cond as cond_row;
 
@@ -52,9 +54,9 @@ impl Model for Desk {
 
     ghost coded = { Prim.hlevel (codes, cond_row.the_row.coded) };
 
-    ghost view = { λ s. record { present = s.present; journal = s.journal; ready = option_map arc_value s.ready } };
+    ghost view = { λ s. record { present = s.present; journal = s.journal; ready = option_map arc_value s.ready; made = option_map remembered s.made } };
 
-    ghost invariant = { λ s. IsDesk (record { present = s.present; journal = s.journal; ready = option_map arc_value s.ready }) };
+    ghost invariant = { λ s. IsDesk (record { present = s.present; journal = s.journal; ready = option_map arc_value s.ready; made = option_map remembered s.made }) };
 }
 
 impl Desk {
@@ -89,11 +91,13 @@ impl Desk {
         let Ok(ready) = Arc::try_clone(made.next.snapshot()) else {
             return Err(FoundFault::NoMemory);
         };
+        let entry = std::snapshot::Snapshot::of(&made.payload);
         match Journal::create(alloc, disk, made.payload.as_slice()) {
             Ok(journal) => Ok(Desk {
                 present: made.next,
                 journal,
                 ready: Some(ready),
+                made: Some(entry),
             }),
             Err(fault) => match fault {
                 JournalFault::NoMemory => Err(FoundFault::NoMemory),
@@ -194,9 +198,12 @@ impl Desk {
     }
 
     /// The snapshot behind the last new entry, the founding and opening included, once: none where there was none since
-    /// this was last asked. It takes no memory.
+    /// this was last asked. Its two parts stand for some legal history. It takes no memory.
     pub fn ready(&mut self) -> Option<Arc<Snapshot>>
         ensures ready { option_map arc_value result ≡ self.old.ready }
+        ensures value { IfSome result (λ s. arc_value s ≡ arc_value self.old.present.snapshot) }
+        ensures seen { IfSome result (λ s. IsSeen (arc_value s)) }
+        ensures stands { IfSome result (λ s. PartsStand (arc_value s).rows (arc_value s).store) }
         ensures kept { self.new ≡ record self.old { ready = None } }
     {
         self.ready.take()

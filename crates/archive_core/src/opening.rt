@@ -1,5 +1,5 @@
 // How an archive is opened again.
-ghost use Rattle.std.specs.Prelude.{◌≡◌, ◌≢◌, ◌⊎◌, ◌≤◌, [], ℕ, List as Listed, Some as some, IfOk, IfErr, OnOk, OnErr, IsErrOf};
+ghost use Rattle.std.specs.Prelude.{◌≡◌, ◌≢◌, ◌⊎◌, ◌≤◌, [], ℕ, List as Listed, Some as some, None, IfOk, IfErr, OnOk, OnErr, IsErrOf};
 ghost use Rattle.std.specs.Arc.{arc_value};
 ghost use Rattle.cite_disk.specs.Device.{LeavesOnly, Quiet, RoseBy};
 ghost use Rattle.archive_journal.specs.Records.{Between, Shut};
@@ -58,7 +58,7 @@ impl Desk {
         ensures opens { IfOk result (λ desk. D.honest → Opens (D.seen disk.old) (D.images disk.new) desk) }
         ensures kept { IfOk result (λ desk. D.honest → IsKept (D.images disk.new) desk) }
         ensures resumes { IfOk result (λ desk. Resumes D.honest (D.seen disk.old) (D.images disk.new) desk) }
-        ensures ready { IfOk result (λ desk. (desk.ready ≡ some (arc_value desk.present.snapshot)) × (desk.journal.stage ≡ Settled)) }
+        ensures ready { IfOk result (λ desk. (desk.ready ≡ some (arc_value desk.present.snapshot)) × (desk.made ≡ None) × (desk.journal.stage ≡ Settled)) }
         ensures not_archive { IsErrOf result NotArchive → D.honest → IsNoArchive (D.seen disk.old) }
         ensures damaged { IfErr result (λ e. (at : ℕ) → e ≡ Damaged at → D.honest → IsSpoilt (D.seen disk.old) at) }
         ensures quiet { IfErr result (λ e. e ≢ DiskFailed → D.honest → Quiet D.seen D.images D.moment D.left_since disk.old disk.new) }
@@ -92,6 +92,7 @@ impl Desk {
                 present,
                 journal,
                 ready: Some(ready),
+                made: None,
             }),
             Err(_) => Err(ResumeFault::DiskFailed),
         }

@@ -14,6 +14,7 @@ use archive_model::Refused;
 use archive_state::{Made, Planned};
 use cite_disk::Disk;
 use std::alloc::Global;
+use std::snapshot::Snapshot;
 use std::sync::Arc;
 
 impl Desk {
@@ -58,11 +59,13 @@ impl Desk {
         let Ok(ready) = Arc::try_clone(made.next.snapshot()) else {
             return Err(Refused::NoMemory);
         };
+        let entry = Snapshot::of(&made.payload);
         match append(&mut self.journal, alloc, disk, made.payload.as_slice()) {
             Err(refusal) => Err(refusal),
             Ok(()) => {
                 self.present = made.next;
                 self.ready = Some(ready);
+                self.made = Some(entry);
                 Ok(made.reply)
             }
         }

@@ -60,7 +60,7 @@ told_so {R} a message now history deed step Replied t takes may stands told resu
     (t.some o s) result
     (ok_turned (λ r. (b : Archive) → Shows (arc_value deed.new.present.snapshot) b → Replied b told r) (Replied o.after o.reply) result
     (λ r k. subst (λ (b : Archive). Replied b o.reply r) (sym (t.keeps o s none)) (subst (λ (w : Result R Refused). Replied a w r) is (k a shows))) h)
-told_so {R} a message now history deed step Replied t takes may stands told result rose (answers.Grows o e s some is after ready settled kept) h =
+told_so {R} a message now history deed step Replied t takes may stands told result rose (answers.Grows o e s some is after ready made settled kept) h =
     due_of (Replied o.after o.reply) (Fares a message history deed)
     (λ r p. Grows now (record { reply = r; entry = o.entry; after = o.after }) e takes (t.one o s r p) some refl after ready settled kept)
     (t.some o s) result
@@ -98,7 +98,7 @@ wanting_told : (a : Archive) (m : Message) (history : List Entry) (deed : Deed) 
     → (result : Result Reply NoMemory) → IfOk result (λ r. r ≡ wanting_reply m.closing) → IsDue (Fares a m history deed) result
 wanting_told a m history deed same given kept result h =
     due_of (λ r. r ≡ wanting_reply m.closing) (Fares a m history deed)
-    (λ r p. Wants (inl given) p (ap (λ (w : Held). w.present) same, ap (λ (w : Held). w.ready) same) kept)
+    (λ r p. Wants (inl given) p (ap (λ (w : Held). w.present) same, ap (λ (w : Held). w.ready) same, ap (λ (w : Held). w.made) same) kept)
     (wanting_reply m.closing, refl) result h
 
 -- a body that is no request is told so
@@ -135,7 +135,7 @@ read_told a m history deed same untouched given kept (Ok r) h =
     let (one, never) = read_one a m.ask m.closing r h in
     (r, Stays 0 (record { reply = r; entry = None; after = a }) (subst (λ (b : Bool). TakesIf b 0 deed) (sym never) given) one refl refl same untouched, refl)
 read_told a m history deed same untouched given kept (Err e) h =
-    (wanting_reply m.closing, Wants (inl given) refl (ap (λ (w : Held). w.present) same, ap (λ (w : Held). w.ready) same) kept, tt)
+    (wanting_reply m.closing, Wants (inl given) refl (ap (λ (w : Held). w.present) same, ap (λ (w : Held). w.ready) same, ap (λ (w : Held). w.made) same) kept, tt)
 
 -- a message is its ask and whether it closes
 pub message_is : (m : Message) (ask : Ask) → m.ask ≡ ask → record { ask = ask; closing = m.closing } ≡ m

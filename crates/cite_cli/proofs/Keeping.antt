@@ -56,7 +56,7 @@ pub founded_so : (disk : OnDisk) (f : FoundEntry) (desk : Held) → Founds f (Ok
 founded_so disk f desk founds keeps empty reads = record {
   unbroken = founds.0;
   empty = empty;
-  holds = holds_so disk desk.journal (entries.Found f ∷ []) (entries.Found f) (λ honest. keeps honest (entries.Found f)) founds.3 reads;
+  holds = holds_so disk desk.journal (entries.Found f ∷ []) (entries.Found f) (λ honest. keeps honest (entries.Found f)) founds.4 reads;
 }
 
 -- a fault that is told as a rule is the first one broken

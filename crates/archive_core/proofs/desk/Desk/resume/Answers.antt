@@ -81,6 +81,7 @@ invariant_of-result g c =
     record {
       stands = record { history = found.0; archive = found.1; stands = found.2 };
       counted = c.in-Ok-finish.ensures.settled.1 ∙ walked_length k.honest (k.seen c.follow.new.disk) c.follow.new.walk c.in-Ok-follow.follower c.in-Some.present c.in-Ok-follow.ensures.walked some;
+      waits = c.in-Ok-try_clone.ensures ∙ c.snapshot.ensures;
     }
 
 pub returns-in-Ok-finish-clause-resumes : goal.returns-in-Ok-finish-clause-resumes
