@@ -18,7 +18,7 @@ use Rattle.cite_cli.specs.Run.{status_of, IsRun, Answers}
 use Rattle.cite_cli.specs.Run.IsRun.{BySelect, ByInit, ByVerify, BySession}
 use Rattle.cite_cli.specs.Completing.{IsFaultless, IsDoneWith, InitCompletes, VerifyCompletes}
 
-first_of : (a b : List ℕ) (ws vs : List (List ℕ)) → a ∷ ws ≡ b ∷ vs → a ≡ b
+pub first_of : (a b : List ℕ) (ws vs : List (List ℕ)) → a ∷ ws ≡ b ∷ vs → a ≡ b
 first_of a b ws vs e = cc
 
 -- the words of one command are not those of another
@@ -27,7 +27,7 @@ select_no_init ws vs e =
     let same : 6 ≡ 4 = ap length (first_of (codes "select") (codes "init") ws vs e) in
     absurd (omega (arith, same))
 
-verify_no_more : (w v x : List ℕ) (vs : List (List ℕ)) → w ∷ [] ≡ v ∷ x ∷ vs → ⊥
+pub verify_no_more : (w v x : List ℕ) (vs : List (List ℕ)) → w ∷ [] ≡ v ∷ x ∷ vs → ⊥
 verify_no_more w v x vs e = absurd (cc)
 
 same_dataset : (d e : Dataset) → d.prefix ≡ e.prefix → d.publisher ≡ e.publisher → d.creator ≡ e.creator → d.title ≡ e.title → d ≡ e

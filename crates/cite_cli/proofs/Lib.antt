@@ -1,5 +1,6 @@
 pub mod Collecting
 pub mod Completing
+pub mod Conversed
 pub mod Delivering
 pub mod FirstLines
 pub mod Keeping

@@ -2,7 +2,7 @@
 ghost use Rattle.cite_cli.specs.Refusals.{FirstBrokenIsTold, TablesBreakNone};
 ghost use Rattle.cite_cli.specs.Select.{OneOutputIsDue};
 ghost use Rattle.cite_cli.specs.Seen.{on_disk};
-ghost use Rattle.cite_cli.specs.Completing.{InitCompletes, VerifyCompletes};
+ghost use Rattle.cite_cli.specs.Completing.{InitCompletes, SessionCompletes, VerifyCompletes};
 
 use cite_disk::Disk;
 
@@ -20,9 +20,11 @@ pub fn the_first_broken_line_is_told()
 {}
 
 /// Where neither the sink nor an honest disk counts a fault, `init` is done on an empty disk, if its words and the moment
-/// break no rule, and `verify` on a disk whose bytes stand for a legal history; or memory is wanting. No other answer can
-/// stand there. A law: the call does nothing.
+/// break no rule, and `verify` on a disk whose bytes stand for a legal history; so is `session` there, where its source
+/// counts no fault either, over an input that is whole messages, none of which breaks, and then every message was answered.
+/// Or memory is wanting. No other answer can stand there. A law: the call does nothing.
 pub fn a_run_without_a_fault_is_done<D: Disk>()
     ensures init { (old new : D) → InitCompletes (on_disk D.honest D.seen D.images D.moment D.left_since D.fault_count old new) }
     ensures verify { (old new : D) → VerifyCompletes (on_disk D.honest D.seen D.images D.moment D.left_since D.fault_count old new) }
+    ensures session { (old new : D) → SessionCompletes (on_disk D.honest D.seen D.images D.moment D.left_since D.fault_count old new) }
 {}
