@@ -153,12 +153,23 @@ fn a_result_that_is_too_large_is_told_with_its_size(rt: HostRuntime) -> Result<(
     Ok(())
 }
 
-// A condition of 300 texts of 65,535 bytes each.
+// Appends fifteen texts of 65,535 bytes, which begin with a byte and differ in the next.
+fn push_texts(alloc: Global, texts: &mut List<Value>, first: u8) -> Result<(), NoMemory> {
+    for second in b"abcdefghijklmno" {
+        let mut long = Vec::new(alloc);
+        long.push(first)?;
+        long.push(*second)?;
+        long.extend_from_slice(&vec![in alloc; b'y'; 65_533]?)?;
+        texts.push(Value::Text(ByteText::from_vec(long)))?;
+    }
+    Ok(())
+}
+
+// A condition of 300 different texts of 65,535 bytes each.
 fn many_texts(alloc: Global) -> Result<Cond, NoMemory> {
     let mut texts = List::new(alloc);
-    for _ in 0..300u32 {
-        let long = vec![in alloc; b'y'; 65_535]?;
-        texts.push(Value::Text(ByteText::from_vec(long)))?;
+    for first in b"abcdefghijklmnopqrst" {
+        push_texts(alloc, &mut texts, *first)?;
     }
     Ok(Cond::Among(texts))
 }
