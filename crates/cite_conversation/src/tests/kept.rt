@@ -8,7 +8,7 @@ use cite_schema::{ByteText, Column, Dataset, Kind, List};
 use std::alloc::Global;
 use std::marker::Model;
 
-// 2024-01-01T00:00:00Z.
+/// The stamp of 2024-01-01T00:00:00Z, in seconds since 1970.
 pub const NEW_YEAR: u64 = 1_704_067_200;
 
 /// A desk with its disk, which keeps the desk's history. It is seen as the bytes of the disk.
