@@ -8,7 +8,8 @@ Rows have a number for their key, a site and a depth, which is the key's remaind
 - changes, batches of one line each, which give a row another site;
 - citations of the rows of one depth, each: the query on the last version, the bytes of its result and their digest, a look for
   a stored citation with this digest, else a new one, on the disk before it is answered;
-- resolves, ten of each citation: its bytes, and their digest, which this program forms for both.
+- resolves, ten of each citation: its bytes, and their digest, which this program forms for both;
+- wide, ten resolves of all rows: five of a citation that prints them by key, and five of one that prints them by depth.
 
 SQLite keeps rows with the versions in which they begin and end, a primary key by key and end without a rowid, and an index by
 depth. The digests of the bytes that were resolved have to be the same for both.
@@ -68,9 +69,14 @@ class Session:
         self.ask(f"POST /batch/1/ann/{number}", body.encode())
 
     def cite(self, depth):
-        items = [{"column": "sid"}, {"column": "site"}]
-        query = {"items": items, "where": {"depth": {"eq": depth}}}
-        meta = {"creators": ["Rey, A."], "title": f"Depth {depth}"}
+        return self.cite_rows(f"Depth {depth}", {"where": {"depth": {"eq": depth}}})
+
+    def cite_all(self, order):
+        return self.cite_rows(f"By {order}", {"order": [{"column": order}]})
+
+    def cite_rows(self, title, rest):
+        query = {"items": [{"column": "sid"}, {"column": "site"}], **rest}
+        meta = {"creators": ["Rey, A."], "title": title}
         answer = self.ask("POST /cite", json.dumps({"meta": meta, "query": query}).encode())
         return json.loads(answer)["id"]
 
@@ -98,8 +104,8 @@ class Tables:
                 primary key (sid, until)) without rowid;
             create index by_depth on kept (depth, sid, since, until);
             create table versions (number integer primary key, curator text, batch integer, digest blob);
-            create table citations (number integer primary key, version integer, depth integer, digest blob);
-            create index by_digest on citations (digest, depth);
+            create table citations (number integer primary key, version integer, depth integer, along text, digest blob);
+            create index by_digest on citations (digest, depth, along);
             insert into versions values (1, '', 0, x'');
             """
         )
@@ -119,32 +125,40 @@ class Tables:
         self.base.execute("commit")
         self.version = new
 
-    def bytes_of(self, depth, version):
-        """Returns the bytes of the rows of a depth in a version."""
+    def bytes_of(self, depth, along, version):
+        """Returns the bytes of the rows of a version that have this depth, or of all, in the order of a column and the key."""
+        chosen, given = ("", []) if depth is None else ("depth = ? and", [depth])
         rows = self.base.execute(
-            "select sid, site from kept where depth = ? and since <= ? and until > ? order by sid",
-            (depth, version, version),
+            f"""select '"' || sid || '","' || site || '"\n' from kept
+                where {chosen} since <= ? and until > ? order by {along}, sid""",
+            (*given, version, version),
         )
-        return ('"sid","site"\n' + "".join(f'"{sid}","{site}"\n' for sid, site in rows)).encode()
+        return ('"sid","site"\n' + "".join(line for (line,) in rows)).encode()
 
     def cite(self, depth):
-        digest = hashlib.sha256(self.bytes_of(depth, self.version)).digest()
+        return self.cite_rows(depth, "sid")
+
+    def cite_all(self, order):
+        return self.cite_rows(None, order)
+
+    def cite_rows(self, depth, along):
+        digest = hashlib.sha256(self.bytes_of(depth, along, self.version)).digest()
         stored = self.base.execute(
-            "select number from citations where digest = ? and depth = ?", (digest, depth)
+            "select number from citations where digest = ? and depth is ? and along = ?", (digest, depth, along)
         ).fetchone()
         if stored:
             return stored[0]
         self.citations += 1
         self.base.execute(
-            "insert into citations values (?, ?, ?, ?)", (self.citations, self.version, depth, digest)
+            "insert into citations values (?, ?, ?, ?, ?)", (self.citations, self.version, depth, along, digest)
         )
         return self.citations
 
     def resolve(self, name):
-        version, depth = self.base.execute(
-            "select version, depth from citations where number = ?", (name,)
+        version, depth, along = self.base.execute(
+            "select version, depth, along from citations where number = ?", (name,)
         ).fetchone()
-        return self.bytes_of(depth, version)
+        return self.bytes_of(depth, along, version)
 
     def end(self):
         self.base.close()
@@ -166,15 +180,17 @@ def played(peer, bodies, changes, citations):
         for number, body in enumerate(some, first):
             peer.batch(number, body)
 
-    def resolve(names):
-        for name in names * 10:
+    def resolve(names, times):
+        for name in names * times:
             seen.update(hashlib.sha256(peer.resolve(name)).digest())
 
     timed(parts, "batches", lambda: store(1, bodies))
     timed(parts, "changes", lambda: store(len(bodies) + 1, changes))
     depths = [turn * 7 % DEPTHS for turn in range(citations)]
     names = timed(parts, "citations", lambda: [peer.cite(depth) for depth in depths])
-    timed(parts, "resolves", lambda: resolve(names))
+    timed(parts, "resolves", lambda: resolve(names, 10))
+    wide = [peer.cite_all(order) for order in ("sid", "depth")]
+    timed(parts, "wide", lambda: resolve(wide, 5))
     peer.end()
     return parts, seen.hexdigest()
 
@@ -185,7 +201,7 @@ def main():
     bodies = [batch_body(LINES * batch) for batch in range(batches)]
     rows = LINES * batches
     lines = [change_body(turn * 7919 % rows, turn) for turn in range(changes)]
-    counts = {"batches": batches, "changes": changes, "citations": citations, "resolves": 10 * citations}
+    counts = {"batches": batches, "changes": changes, "citations": citations, "resolves": 10 * citations, "wide": 10}
     best, digests = {}, set()
     for _ in range(runs):
         for name, peer in (("session", Session(program, folder)), ("sqlite3", Tables(folder))):
