@@ -1,5 +1,5 @@
 -- In every archive to which a history leads, a citation has an outcome.
-use Rattle.std.proofs.Common.{◌≡◌, ℕ, ◌+◌, ◌⊎◌, inl, inr, List, IsTrue, length, refl, sym, subst}
+use Rattle.std.proofs.Common.{◌≡◌, ℕ, ◌+◌, ◌⊎◌, inl, inr, List, length, refl, sym, subst}
 use Rattle.std.specs.Prelude.{true, false, option_map}
 use Rattle.std.specs.List.{AllByRecursion}
 use Rattle.cite_schema.specs.Answers.{Plan, Alike}
@@ -9,7 +9,7 @@ use Rattle.cite_schema.specs.declared.query.CiteAsk.{CiteAsk}
 use Rattle.cite_schema.proofs.Answered.{always_gives}
 use Rattle.subset_query.specs.Forms.{formed}
 use Rattle.subset_query.specs.Checks.{query_fault}
-use Rattle.subset_query.specs.FormLaws.{has_cells, HasForm}
+use Rattle.subset_query.specs.FormLaws.{HasForm}
 use Rattle.subset_query.proofs.Alikes.{alike_back, alike_on}
 use Rattle.subset_query.proofs.Central.{one_form}
 use Rattle.subset_query.proofs.Existing.{has_form}
@@ -56,11 +56,11 @@ module _ (a : Archive) (sound : Sound a) (ask : CiteAsk) (now : ℕ) where
       let (o, decided) = refused_or a (too_large bytes) (λ (p : Outcome Cited). IsRepeat a ask bytes p ⊎ IsMinting a ask now bytes p) (λ fine. repeat_or_mint bytes f) in
       (o, record { bytes = bytes; gives = gives; decided = decided })
 
-  cite_outcome : IsTrue (has_cells ask.query) → (o : Outcome Cited) × CiteStep a ask now o
-  cite_outcome cells =
+  cite_outcome : (o : Outcome Cited) × CiteStep a ask now o
+  cite_outcome =
       refused_or a (option_map refusals.Query (query_fault (columns_of a) ask.query)) (λ (o : Outcome Cited). RefusedOr a (option_map refusals.BadMeta (meta_fault ask.meta)) o (IsAnswered a ask now o)) (λ fine.
       refused_or a (option_map refusals.BadMeta (meta_fault ask.meta)) (IsAnswered a ask now) (λ told.
-      answered (has_form (columns_of a) ask.query sound.heading cells (unmapped refusals.Query (query_fault (columns_of a) ask.query) fine))))
+      answered (has_form (columns_of a) ask.query sound.heading (unmapped refusals.Query (query_fault (columns_of a) ask.query) fine))))
 
 pub citations_have_an_outcome : CitationsHaveAnOutcome
-citations_have_an_outcome history a ask now leads cells = cite_outcome a (citations_resolve history a leads) ask now cells
+citations_have_an_outcome history a ask now leads = cite_outcome a (citations_resolve history a leads) ask now

@@ -8,8 +8,8 @@ pub fn steps_have_one_outcome()
     ensures { StepsHaveOneOutcome }
 {}
 
-/// In every archive to which a history leads, a citation has an outcome at every moment, where each value in the
-/// conditions of its query is one that a column may hold. So what is said of a citation's outcome is said of something.
+/// In every archive to which a history leads, a citation has an outcome at every moment. So what is said of a citation's
+/// outcome is said of something.
 pub fn citations_have_an_outcome()
     ensures { CitationsHaveAnOutcome }
 {}

@@ -1,3 +1,4 @@
+pub mod BrokenTexts
 pub mod Crossing
 pub mod Gaps
 pub mod Joining

@@ -16,7 +16,7 @@ nat_below c b e = grind (arith, nat_tests)
 nat_above : (c b : ℕ) → nat_cmp c b ≡ Greater → nat_eq b c ≡ false
 nat_above c b e = grind (arith, nat_tests)
 
-nat_same : (c b : ℕ) → nat_cmp c b ≡ Equal → c ≡ b
+pub nat_same : (c b : ℕ) → nat_cmp c b ≡ Equal → c ≡ b
 nat_same c b e = grind (arith, nat_tests)
 
 nat_eq_self : (b : ℕ) → nat_eq b b ≡ true
@@ -34,15 +34,15 @@ nat_cmp_above c b e = grind (arith, nat_tests)
 nat_top : (c b : ℕ) → nat_lt c 256 ≡ true → nat_lt b 255 ≡ false → nat_cmp c b ≡ Greater → ⊥
 nat_top c b l m e = grind (arith, nat_tests)
 
-and_first : (a b : Bool) → (a && b) ≡ true → a ≡ true
+pub and_first : (a b : Bool) → (a && b) ≡ true → a ≡ true
 and_first true b e = refl
 and_first false b e = e
 
-and_second : (a b : Bool) → (a && b) ≡ true → b ≡ true
+pub and_second : (a b : Bool) → (a && b) ≡ true → b ≡ true
 and_second true b e = e
 and_second false b e = cc
 
-and_no : (a b : Bool) → b ≡ false → (a && b) ≡ false
+pub and_no : (a b : Bool) → b ≡ false → (a && b) ≡ false
 and_no true b e = e
 and_no false b e = refl
 
@@ -51,7 +51,7 @@ empty_least [] = refl
 empty_least (c ∷ cs) = refl
 
 -- a text with a greater first byte is not below the end
-past_end : (c b : ℕ) (cs bs : List ℕ) → nat_lt c 256 ≡ true → nat_cmp c b ≡ Greater → under text_cmp (prefix_end (b ∷ bs)) (c ∷ cs) ≡ false
+pub past_end : (c b : ℕ) (cs bs : List ℕ) → nat_lt c 256 ≡ true → nat_cmp c b ≡ Greater → under text_cmp (prefix_end (b ∷ bs)) (c ∷ cs) ≡ false
 past_end c b cs bs l e = by (prefix_end bs)
   where
     then_not : (o p : Ordering) → is_lt o ≡ false → is_lt p ≡ false → is_lt (ordering_then o p) ≡ false
@@ -68,7 +68,7 @@ past_end c b cs bs l e = by (prefix_end bs)
     by None = last (nat_lt b 255) refl
 
 -- behind the same first byte, what follows decides
-same_end : (b : ℕ) (cs : List ℕ) (o : Option (List ℕ)) → under text_cmp (raised b o) (b ∷ cs) ≡ under text_cmp o cs
+pub same_end : (b : ℕ) (cs : List ℕ) (o : Option (List ℕ)) → under text_cmp (raised b o) (b ∷ cs) ≡ under text_cmp o cs
 same_end b cs (Some t) = ap (λ o. is_lt (ordering_then o (text_cmp cs t))) (nat_cmp_self b)
 same_end b cs None = by (nat_lt b 255)
   where

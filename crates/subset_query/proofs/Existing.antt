@@ -33,9 +33,9 @@ use Rattle.subset_query.specs.declared.form.Normal.TheVariants as forms
 use Rattle.cite_schema.specs.declared.item.Shown.TheVariants.{Column}
 use Rattle.subset_query.specs.declared.checks.QueryFault.{QueryFault}
 use Rattle.subset_query.specs.declared.checks.QueryFault.TheVariants.{NoItems, UnknownColumn}
-use Rattle.subset_query.specs.Checks.{all_pass, first_of, size_faults, column_faults, where_so}
+use Rattle.subset_query.specs.Checks.{first_of, size_faults, column_faults, where_so}
 use Rattle.subset_query.specs.Forms.{formed, in_set, in_sets, is_set_for, are_sets_for, HasTwo, AreShownIn, AreColumnsIn, printed_columns}
-use Rattle.subset_query.specs.FormLaws.{is_cell, HasForm, QueriesHaveAForm}
+use Rattle.subset_query.specs.FormLaws.{HasForm, QueriesHaveAForm}
 use Rattle.subset_query.specs.Settling.{own_kind, IsCanonicalSet, HoldsNone, HasNone, IsOne, Fixes, AreFixing, settled_item, needed_order}
 use Rattle.subset_query.proofs.Alikes.{alike_on}
 use Rattle.subset_query.proofs.Chosen.{IsFull, AreFull, full_kinds, full_rows, IsNarrowed, same_count, found_within, own_at, own_is, narrow_one, all_known, asked_shown, asked_there, asked_alike}
@@ -130,19 +130,19 @@ record IsMet (k : Kind) (c : Cond) (s : ColumnSet) : Type 0 where
   canonical : IsCanonicalSet s
   met : (v : Value) → is_value_of k v ≡ true → in_set s v ≡ meets c v
 
-set_met : (k : Kind) (c : Cond) → all_pass is_cell c ≡ true → (s : ColumnSet) × IsMet k c s
-set_met kinds.Int c h = (Ints found.spans, record { of_kind = refl; canonical = found.canonical; met = by })
+set_met : (k : Kind) (c : Cond) → (s : ColumnSet) × IsMet k c s
+set_met kinds.Int c = (Ints found.spans, record { of_kind = refl; canonical = found.canonical; met = by })
   where
     found : Spanned IsNum int_cmp (λ z. meets c (Int z))
-    found = numbers_asked c h
+    found = numbers_asked c
 
     by : (v : Value) → is_value_of kinds.Int v ≡ true → in_set (Ints found.spans) v ≡ meets c v
     by (Int z) f = found.has_is z f
     by (Text t) f = cc
-set_met kinds.Text c h = (Texts found.spans, record { of_kind = refl; canonical = found.canonical; met = by })
+set_met kinds.Text c = (Texts found.spans, record { of_kind = refl; canonical = found.canonical; met = by })
   where
     found : Spanned IsTxt text_cmp (λ t. meets c (Text t))
-    found = texts_asked c h
+    found = texts_asked c
 
     by : (v : Value) → is_value_of kinds.Text v ≡ true → in_set (Texts found.spans) v ≡ meets c v
     by (Int z) f = cc
@@ -212,9 +212,9 @@ record IsCut (cs : List schema_column.Column) (conds : List OnColumn) (ss : List
 
 -- the sets cut down by one condition more, and then by the rest
 cut_once : (cs : List schema_column.Column) (conds rest : List OnColumn) (o : OnColumn) (ss : List ColumnSet) → IsNarrowed cs ss conds (o ∷ rest) → AllByRecursion IsCanonicalSet ss
-    → all_pass is_cell o.cond ≡ true → is_none (column_of cs o.column) ≡ false
+    → is_none (column_of cs o.column) ≡ false
     → ((ts : List ColumnSet) → IsNarrowed cs ts conds rest → AllByRecursion IsCanonicalSet ts → (us : List ColumnSet) × IsCut cs conds us) → (us : List ColumnSet) × IsCut cs conds us
-cut_once cs conds rest o ss h canonical cells known more = by (column_of cs o.column) refl
+cut_once cs conds rest o ss h canonical known more = by (column_of cs o.column) refl
   where
     column : schema_column.Column
     column = record { name = []; kind = kinds.Int }
@@ -225,7 +225,7 @@ cut_once cs conds rest o ss h canonical cells known more = by (column_of cs o.co
         let within = found_within cs o.column place e in
         let here : place < length ss = subst (λ n. place < n) (same_count cs ss h.kinds) within in
         let s = get_or ss place (Ints []) in
-        let (met, is_met) = set_met (get_or cs place column).kind o.cond cells in
+        let (met, is_met) = set_met (get_or cs place column).kind o.cond in
         let kinds_are : own_kind s ≡ own_kind met = own_at cs ss place column (Ints []) h.kinds within ∙ sym (own_is (get_or cs place column).kind met is_met.of_kind) in
         let (n, is_both) = both_sets s met kinds_are (all_at IsCanonicalSet ss place (Ints []) canonical here) is_met.canonical in
         more (slice_set ss place n)
@@ -238,11 +238,11 @@ neither true b e = absurd (cc)
 neither false b e = (refl, e)
 
 cut : (cs : List schema_column.Column) (conds rest : List OnColumn) (ss : List ColumnSet) → IsNarrowed cs ss conds rest → AllByRecursion IsCanonicalSet ss
-    → list_all (λ o. all_pass is_cell o.cond) rest ≡ true → list_any (λ (o : OnColumn). is_none (column_of cs o.column)) rest ≡ false → (ts : List ColumnSet) × IsCut cs conds ts
-cut cs conds [] ss h canonical cells known = (ss, record { narrowed = h; canonical = canonical })
-cut cs conds (o ∷ rest) ss h canonical cells known =
+    → list_any (λ (o : OnColumn). is_none (column_of cs o.column)) rest ≡ false → (ts : List ColumnSet) × IsCut cs conds ts
+cut cs conds [] ss h canonical known = (ss, record { narrowed = h; canonical = canonical })
+cut cs conds (o ∷ rest) ss h canonical known =
     let known_all = neither (is_none (column_of cs o.column)) (list_any (λ (p : OnColumn). is_none (column_of cs p.column)) rest) known in
-    cut_once cs conds rest o ss h canonical (and_first _ _ cells) known_all.0 (λ ts g c. cut cs conds rest ts g c (and_second _ _ cells) known_all.1)
+    cut_once cs conds rest o ss h canonical known_all.0 (λ ts g c. cut cs conds rest ts g c known_all.1)
 
 -- where no fault is told, none of the faults that stand first applies
 head_none : (o : Option QueryFault) (rest : List (Option QueryFault)) (b : Option QueryFault) → option_or (first_of (o ∷ rest)) b ≡ None → o ≡ None
@@ -272,12 +272,12 @@ always false = refl
 
 -- each query without a fault has a settled form
 pub has_form : QueriesHaveAForm
-has_form cs q heading cells fault =
+has_form cs q heading fault =
     let (full, all) = all_full cs in
     let conds_known : list_any (λ (o : OnColumn). is_none (column_of cs o.column)) q.conds ≡ false =
     all_known cs q.conds (unmapped_none (λ i. UnknownColumn 1 i) (position (λ (o : OnColumn). is_none (column_of cs o.column)) q.conds)
     (second_none _ _ _ (tail_none (first_of (size_faults q)) (first_of (column_faults cs q)) fault))) in
-    let (ss, is_cut) = cut cs q.conds q.conds full (record { kinds = full_kinds cs full all.0; chosen = λ r f. ap (λ b. b && list_all (λ o. meets_on cs o r) q.conds) (full_rows cs full all.0 r f) }) all.1 cells conds_known in
+    let (ss, is_cut) = cut cs q.conds q.conds full (record { kinds = full_kinds cs full all.0; chosen = λ r f. ap (λ b. b && list_all (λ o. meets_on cs o r) q.conds) (full_rows cs full all.0 r f) }) all.1 conds_known in
     parts_form cs q ss (asked cs q).items (asked cs q).order is_cut.narrowed.kinds is_cut.canonical heading
     (some_items cs q.items (head_none _ _ (first_of (column_faults cs q)) fault))
     (asked_shown cs q.items (some_column cs heading)) (asked_there cs q.order (some_column cs heading))

@@ -1,8 +1,9 @@
 -- For each condition the values of a kind that meet it are those of a canonical list of intervals.
-use Rattle.std.proofs.Common.{◌≡◌, ◌≢◌, ℕ, ◌+◌, Bool, true, false, not, cond, ◌&&◌, ◌||◌, List, [], ◌∷◌, Option, Some, None, map, nat_lt, refl, sym, ap, ◌∙◌, subst, arith}
+use Rattle.std.proofs.Common.{◌≡◌, ◌≢◌, ℕ, ℤ, pos, ◌+◌, Bool, true, false, not, cond, ◌&&◌, ◌||◌, List, [], ◌∷◌, Option, Some, None, map, nat_lt, refl, sym, ap, ◌∙◌, subst, arith}
 use Rattle.std.proofs.lemmas.Bool.Decides.{nat_tests}
+use Rattle.std.proofs.lemmas.Int.{ints}
 use Rattle.std.specs.List.{list_all, list_any, starts_with}
-use Rattle.std.specs.Prelude.{nat_eq}
+use Rattle.std.specs.Prelude.{nat_eq, int_lt}
 use Rattle.std.specs.Ordering.{int_cmp, is_lt, is_le, is_eq, is_ge, is_gt, is_ne}
 use Rattle.std.specs.declared.cmp.Ordering.{Ordering}
 use Rattle.std.specs.declared.cmp.Ordering.TheVariants.{Less, Equal, Greater}
@@ -12,7 +13,7 @@ use Rattle.cite_schema.specs.declared.condition.Cond.{Cond}
 use Rattle.cite_schema.specs.declared.condition.Cond.TheOpen.{Cond-F, Lt, Le, Eq, Ne, Ge, Gt, Among, Prefix, AllOf, AnyOf, Not}
 use Rattle.cite_schema.specs.declared.condition.Cond.TheViews.{roll-Cond}
 use Rattle.cite_schema.specs.declared.condition.Cond.TheFolds.{fold-roll-Cond, ind-Cond, map-Cond}
-use Rattle.cite_schema.specs.Values.{value_cmp, text_cmp, is_text}
+use Rattle.cite_schema.specs.Values.{value_cmp, text_cmp, is_number, is_text}
 use Rattle.cite_schema.specs.Conditions.{meets, meets_step, begins_with}
 use Rattle.cite_schema.proofs.Rising.{and_first, and_second}
 use Rattle.interval_normal.specs.declared.set.Span.{Span}
@@ -20,14 +21,13 @@ use Rattle.interval_normal.specs.Spans.{under, has, IsEnd, IsCanonical, IsNextOf
 use Rattle.interval_normal.specs.Cross.{cross}
 use Rattle.interval_normal.specs.Flip.{gaps}
 use Rattle.interval_normal.specs.PrefixEnds.{raised, prefix_end}
-use Rattle.interval_normal.specs.Points.{least_number, least_number_valid, number_least, number_after, number_next, text_least, text_after, text_next}
+use Rattle.interval_normal.specs.Points.{least_number, least_number_valid, number_least, number_after, number_next, text_least, text_after, text_next, text_exact}
 use Rattle.interval_normal.proofs.Order.{IsLine, lt_not_ge}
 use Rattle.interval_normal.proofs.Lone.{lone, lone_has}
 use Rattle.interval_normal.proofs.Gaps.{or_false, complement_good, complement_has}
 use Rattle.interval_normal.proofs.Crossing.{cross_canonical, has_cross}
 use Rattle.interval_normal.proofs.Prefixes.{between}
-use Rattle.subset_query.specs.Checks.{all_pass, passes_step}
-use Rattle.subset_query.specs.FormLaws.{is_cell}
+use Rattle.interval_normal.proofs.BrokenTexts.{byte_front, front_is_text, below_broken, none_begins}
 use Rattle.subset_query.proofs.Sets.{numbers, texts}
 use Rattle.subset_query.proofs.SingleValues.{IsNum, IsTxt}
 
@@ -109,78 +109,94 @@ module _ {P : Type 0} (valid : P → Type 0) (cmp : P → P → Ordering) (line 
 
   -- points as cells of a table, and the lists for what one value or one prefix asks of them
   module _ (cell : P → Value)
-      (less : (v : Value) → is_cell v ≡ true → Spanned valid cmp (λ x. is_lt (value_cmp (cell x) v)))
-      (same : (v : Value) → is_cell v ≡ true → Spanned valid cmp (λ x. is_eq (value_cmp (cell x) v)))
-      (beginning : (p : List ℕ) → is_text p ≡ true → Spanned valid cmp (λ x. begins_with p (cell x))) where
+      (less : (v : Value) → Spanned valid cmp (λ x. is_lt (value_cmp (cell x) v)))
+      (same : (v : Value) → Spanned valid cmp (λ x. is_eq (value_cmp (cell x) v)))
+      (beginning : (p : List ℕ) → Spanned valid cmp (λ x. begins_with p (cell x))) where
     abbrev Asks : (Value → Bool) → Type 0
     Asks test = Spanned valid cmp (λ x. test (cell x))
 
     abbrev Q : Cond → Type 0
-    Q c = all_pass is_cell c ≡ true → Asks (meets c)
+    Q c = Asks (meets c)
 
-    up_to : (v : Value) → is_cell v ≡ true → Asks (λ y. is_lt (value_cmp y v) || is_eq (value_cmp y v))
-    up_to v h = either (λ x. is_lt (value_cmp (cell x) v)) (λ x. is_eq (value_cmp (cell x) v)) (less v h) (same v h)
+    up_to : (v : Value) → Asks (λ y. is_lt (value_cmp y v) || is_eq (value_cmp y v))
+    up_to v = either (λ x. is_lt (value_cmp (cell x) v)) (λ x. is_eq (value_cmp (cell x) v)) (less v) (same v)
 
-    among : (vs : List Value) → list_all is_cell vs ≡ true → Asks (λ y. list_any (λ v. is_eq (value_cmp y v)) vs)
-    among [] h = none
-    among (v ∷ vs) h = either (λ x. is_eq (value_cmp (cell x) v)) (λ x. list_any (λ w. is_eq (value_cmp (cell x) w)) vs) (same v (and_first _ _ h)) (among vs (and_second _ _ h))
+    among : (vs : List Value) → Asks (λ y. list_any (λ v. is_eq (value_cmp y v)) vs)
+    among [] = none
+    among (v ∷ vs) = either (λ x. is_eq (value_cmp (cell x) v)) (λ x. list_any (λ w. is_eq (value_cmp (cell x) w)) vs) (same v) (among vs)
 
     -- what a condition made of a layer asks is what the layer asks
-    made : (l : Cond-F Cond) → (passes_step is_cell (map-Cond Cond Bool (all_pass is_cell) l) ≡ true → Asks (meets_step (map-Cond Cond (Value → Bool) meets l))) → Q (roll-Cond l)
-    made l h pass = change (λ x. meets_step (map-Cond Cond (Value → Bool) meets l) (cell x)) (λ x. meets (roll-Cond l) (cell x))
-        (h (sym (fold-roll-Cond Bool (passes_step is_cell) l) ∙ pass)) (λ x v. sym (ap (λ f. f (cell x)) (fold-roll-Cond (Value → Bool) meets_step l)))
+    made : (l : Cond-F Cond) → Asks (meets_step (map-Cond Cond (Value → Bool) meets l)) → Q (roll-Cond l)
+    made l h = change (λ x. meets_step (map-Cond Cond (Value → Bool) meets l) (cell x)) (λ x. meets (roll-Cond l) (cell x)) h (λ x v. sym (ap (λ f. f (cell x)) (fold-roll-Cond (Value → Bool) meets_step l)))
 
-    all_of : (es : List ((c : Cond) × Q c)) → list_all (λ b. b) (map (all_pass is_cell) (map (λ e. e.0) es)) ≡ true → Asks (λ y. list_all (λ m. m y) (map meets (map (λ e. e.0) es)))
-    all_of [] h = every
-    all_of (e ∷ es) h = both (λ x. meets e.0 (cell x)) (λ x. list_all (λ m. m (cell x)) (map meets (map (λ e. e.0) es))) (e.1 (and_first _ _ h)) (all_of es (and_second _ _ h))
+    all_of : (es : List ((c : Cond) × Q c)) → Asks (λ y. list_all (λ m. m y) (map meets (map (λ e. e.0) es)))
+    all_of [] = every
+    all_of (e ∷ es) = both (λ x. meets e.0 (cell x)) (λ x. list_all (λ m. m (cell x)) (map meets (map (λ e. e.0) es))) e.1 (all_of es)
 
-    any_of : (es : List ((c : Cond) × Q c)) → list_all (λ b. b) (map (all_pass is_cell) (map (λ e. e.0) es)) ≡ true → Asks (λ y. list_any (λ m. m y) (map meets (map (λ e. e.0) es)))
-    any_of [] h = none
-    any_of (e ∷ es) h = either (λ x. meets e.0 (cell x)) (λ x. list_any (λ m. m (cell x)) (map meets (map (λ e. e.0) es))) (e.1 (and_first _ _ h)) (any_of es (and_second _ _ h))
+    any_of : (es : List ((c : Cond) × Q c)) → Asks (λ y. list_any (λ m. m y) (map meets (map (λ e. e.0) es)))
+    any_of [] = none
+    any_of (e ∷ es) = either (λ x. meets e.0 (cell x)) (λ x. list_any (λ m. m (cell x)) (map meets (map (λ e. e.0) es))) e.1 (any_of es)
 
     layer : (y : Cond-F ((c : Cond) × Q c)) → Q (roll-Cond (map-Cond ((c : Cond) × Q c) Cond (λ e. e.0) y))
-    layer (Lt v) = made (Lt v) (λ h. less v h)
-    layer (Le v) = made (Le v) (λ h. change (λ x. is_lt (value_cmp (cell x) v) || is_eq (value_cmp (cell x) v)) (λ x. is_le (value_cmp (cell x) v)) (up_to v h) (λ x w. le_either (value_cmp (cell x) v)))
-    layer (Eq v) = made (Eq v) (λ h. same v h)
-    layer (Ne v) = made (Ne v) (λ h. change (λ x. not (is_eq (value_cmp (cell x) v))) (λ x. is_ne (value_cmp (cell x) v)) (others (λ x. is_eq (value_cmp (cell x) v)) (same v h)) (λ x w. ne_not (value_cmp (cell x) v)))
-    layer (Ge v) = made (Ge v) (λ h. change (λ x. not (is_lt (value_cmp (cell x) v))) (λ x. is_ge (value_cmp (cell x) v)) (others (λ x. is_lt (value_cmp (cell x) v)) (less v h)) (λ x w. ge_not (value_cmp (cell x) v)))
-    layer (Gt v) = made (Gt v) (λ h. change (λ x. not (is_lt (value_cmp (cell x) v) || is_eq (value_cmp (cell x) v))) (λ x. is_gt (value_cmp (cell x) v)) (others (λ x. is_lt (value_cmp (cell x) v) || is_eq (value_cmp (cell x) v)) (up_to v h)) (λ x w. gt_not (value_cmp (cell x) v)))
-    layer (Among vs) = made (Among vs) (λ h. among vs h)
-    layer (Prefix p) = made (Prefix p) (λ h. beginning p h)
-    layer (AllOf es) = made (AllOf (map (λ e. e.0) es)) (λ h. all_of es h)
-    layer (AnyOf es) = made (AnyOf (map (λ e. e.0) es)) (λ h. any_of es h)
-    layer (Not e) = made (Not e.0) (λ h. others (λ x. meets e.0 (cell x)) (e.1 h))
+    layer (Lt v) = made (Lt v) (less v)
+    layer (Le v) = made (Le v) (change (λ x. is_lt (value_cmp (cell x) v) || is_eq (value_cmp (cell x) v)) (λ x. is_le (value_cmp (cell x) v)) (up_to v) (λ x w. le_either (value_cmp (cell x) v)))
+    layer (Eq v) = made (Eq v) (same v)
+    layer (Ne v) = made (Ne v) (change (λ x. not (is_eq (value_cmp (cell x) v))) (λ x. is_ne (value_cmp (cell x) v)) (others (λ x. is_eq (value_cmp (cell x) v)) (same v)) (λ x w. ne_not (value_cmp (cell x) v)))
+    layer (Ge v) = made (Ge v) (change (λ x. not (is_lt (value_cmp (cell x) v))) (λ x. is_ge (value_cmp (cell x) v)) (others (λ x. is_lt (value_cmp (cell x) v)) (less v)) (λ x w. ge_not (value_cmp (cell x) v)))
+    layer (Gt v) = made (Gt v) (change (λ x. not (is_lt (value_cmp (cell x) v) || is_eq (value_cmp (cell x) v))) (λ x. is_gt (value_cmp (cell x) v)) (others (λ x. is_lt (value_cmp (cell x) v) || is_eq (value_cmp (cell x) v)) (up_to v)) (λ x w. gt_not (value_cmp (cell x) v)))
+    layer (Among vs) = made (Among vs) (among vs)
+    layer (Prefix p) = made (Prefix p) (beginning p)
+    layer (AllOf es) = made (AllOf (map (λ e. e.0) es)) (all_of es)
+    layer (AnyOf es) = made (AnyOf (map (λ e. e.0) es)) (any_of es)
+    layer (Not e) = made (Not e.0) (others (λ x. meets e.0 (cell x)) e.1)
 
     asks : (c : Cond) → Q c
     asks = ind-Cond Q (λ x y is. subst (λ l. Q (roll-Cond l)) is (layer y))
-
-less_number : (v : Value) → is_cell v ≡ true → Spanned IsNum int_cmp (λ z. is_lt (value_cmp (Int z) v))
-less_number (Int z) h = below IsNum int_cmp numbers least_number least_number_valid number_least z h
-less_number (Text t) h = every IsNum int_cmp numbers least_number least_number_valid number_least
-
-same_number : (v : Value) → is_cell v ≡ true → Spanned IsNum int_cmp (λ z. is_eq (value_cmp (Int z) v))
-same_number (Int z) h = one IsNum int_cmp numbers least_number least_number_valid number_least z (number_after z) h (number_next z h)
-same_number (Text t) h = none IsNum int_cmp numbers least_number least_number_valid number_least
 
 -- all numbers
 pub every_number : Spanned IsNum int_cmp (λ z. true)
 every_number = every IsNum int_cmp numbers least_number least_number_valid number_least
 
+no_numbers : Spanned IsNum int_cmp (λ z. false)
+no_numbers = none IsNum int_cmp numbers least_number least_number_valid number_least
+
+number_over : (x z : ℤ) → is_number x ≡ true → is_number z ≡ false → int_lt z (pos 0) ≡ false → is_lt (int_cmp x z) ≡ true
+number_over x z v out sign = grind (arith, ints, nat_tests)
+
+number_under : (x z : ℤ) → is_number x ≡ true → is_number z ≡ false → int_lt z (pos 0) ≡ true → is_lt (int_cmp x z) ≡ false
+number_under x z v out sign = grind (arith, ints, nat_tests)
+
+number_other : (x z : ℤ) → is_number x ≡ true → is_number z ≡ false → is_eq (int_cmp x z) ≡ false
+number_other x z v out = grind (arith, ints, nat_tests)
+
+-- below a number that no column holds are all numbers, or none
+less_number : (v : Value) → Spanned IsNum int_cmp (λ z. is_lt (value_cmp (Int z) v))
+less_number (Int z) = by (is_number z) refl (int_lt z (pos 0)) refl
+  where
+    by : (inside : Bool) → is_number z ≡ inside → (negative : Bool) → int_lt z (pos 0) ≡ negative → Spanned IsNum int_cmp (λ x. is_lt (int_cmp x z))
+    by true e negative f = below IsNum int_cmp numbers least_number least_number_valid number_least z e
+    by false e true f = change IsNum int_cmp numbers least_number least_number_valid number_least (λ x. false) (λ x. is_lt (int_cmp x z)) no_numbers (λ x v. sym (number_under x z v e f))
+    by false e false f = change IsNum int_cmp numbers least_number least_number_valid number_least (λ x. true) (λ x. is_lt (int_cmp x z)) every_number (λ x v. sym (number_over x z v e f))
+less_number (Text t) = every_number
+
+same_number : (v : Value) → Spanned IsNum int_cmp (λ z. is_eq (value_cmp (Int z) v))
+same_number (Int z) = by (is_number z) refl
+  where
+    by : (inside : Bool) → is_number z ≡ inside → Spanned IsNum int_cmp (λ x. is_eq (int_cmp x z))
+    by true e = one IsNum int_cmp numbers least_number least_number_valid number_least z (number_after z) e (number_next z e)
+    by false e = change IsNum int_cmp numbers least_number least_number_valid number_least (λ x. false) (λ x. is_eq (int_cmp x z)) no_numbers (λ x v. sym (number_other x z v e))
+same_number (Text t) = no_numbers
+
 -- the numbers that meet a condition
-pub numbers_asked : (c : Cond) → all_pass is_cell c ≡ true → Spanned IsNum int_cmp (λ z. meets c (Int z))
-numbers_asked = asks IsNum int_cmp numbers least_number least_number_valid number_least Int less_number same_number (λ p h. none IsNum int_cmp numbers least_number least_number_valid number_least)
-
-less_text : (v : Value) → is_cell v ≡ true → Spanned IsTxt text_cmp (λ t. is_lt (value_cmp (Text t) v))
-less_text (Int z) h = none IsTxt text_cmp texts [] refl text_least
-less_text (Text t) h = below IsTxt text_cmp texts [] refl text_least t h
-
-same_text : (v : Value) → is_cell v ≡ true → Spanned IsTxt text_cmp (λ t. is_eq (value_cmp (Text t) v))
-same_text (Int z) h = none IsTxt text_cmp texts [] refl text_least
-same_text (Text t) h = one IsTxt text_cmp texts [] refl text_least t (text_after t) h (text_next t h)
+pub numbers_asked : (c : Cond) → Spanned IsNum int_cmp (λ z. meets c (Int z))
+numbers_asked = asks IsNum int_cmp numbers least_number least_number_valid number_least Int less_number same_number (λ p. no_numbers)
 
 -- all texts
 pub every_text : Spanned IsTxt text_cmp (λ t. true)
 every_text = every IsTxt text_cmp texts [] refl text_least
+
+no_texts : Spanned IsTxt text_cmp (λ t. false)
+no_texts = none IsTxt text_cmp texts [] refl text_least
 
 -- where a prefix of bytes ends is a text of bytes
 abbrev IsTextEnd : Option (List ℕ) → Type 0
@@ -199,15 +215,42 @@ end_is_text (b ∷ bs) h = by (prefix_end bs) (end_is_text bs (and_second _ _ h)
     by None k true is = subst (λ c. IsTextEnd (cond c (Some ((b + 1) ∷ [])) None)) (sym is) (ap (λ c. c && true) (next_byte is))
     by None k false is = subst (λ c. IsTextEnd (cond c (Some ((b + 1) ∷ [])) None)) (sym is) tt
 
-beginning_texts : (p : List ℕ) → is_text p ≡ true → Spanned IsTxt text_cmp (λ t. begins_with p (Text t))
-beginning_texts p h = change IsTxt text_cmp texts [] refl text_least (λ t. is_ge (text_cmp t p) && under text_cmp (prefix_end p) t) (λ t. starts_with nat_eq t p)
-    (both IsTxt text_cmp texts [] refl text_least (λ t. is_ge (text_cmp t p)) (λ t. under text_cmp (prefix_end p) t) (from_on IsTxt text_cmp texts [] refl text_least p h) (before (prefix_end p) (end_is_text p h)))
-    (λ t v. between p t v)
+-- the texts below where a prefix ends
+before_end : (e : Option (List ℕ)) → IsTextEnd e → Spanned IsTxt text_cmp (λ t. under text_cmp e t)
+before_end None k = every_text
+before_end (Some e) k = below IsTxt text_cmp texts [] refl text_least e k
+
+less_text : (v : Value) → Spanned IsTxt text_cmp (λ t. is_lt (value_cmp (Text t) v))
+less_text (Int z) = no_texts
+less_text (Text t) = by (is_text t) refl
   where
-    before : (e : Option (List ℕ)) → IsTextEnd e → Spanned IsTxt text_cmp (λ t. under text_cmp e t)
-    before None k = every IsTxt text_cmp texts [] refl text_least
-    before (Some e) k = below IsTxt text_cmp texts [] refl text_least e k
+    by : (inside : Bool) → is_text t ≡ inside → Spanned IsTxt text_cmp (λ x. is_lt (text_cmp x t))
+    by true e = below IsTxt text_cmp texts [] refl text_least t e
+    by false e = change IsTxt text_cmp texts [] refl text_least (λ x. under text_cmp (prefix_end (byte_front t)) x) (λ x. is_lt (text_cmp x t))
+        (before_end (prefix_end (byte_front t)) (end_is_text (byte_front t) (front_is_text t))) (λ x v. sym (below_broken t x e v))
+
+same_text : (v : Value) → Spanned IsTxt text_cmp (λ t. is_eq (value_cmp (Text t) v))
+same_text (Int z) = no_texts
+same_text (Text t) = by (is_text t) refl
+  where
+    other : (x : List ℕ) → is_text x ≡ true → is_text t ≡ false → (o : Ordering) → text_cmp x t ≡ o → false ≡ is_eq o
+    other x v out Less e = refl
+    other x v out Equal e = sym (ap is_text (text_exact x t e) ∙ out) ∙ v
+    other x v out Greater e = refl
+
+    by : (inside : Bool) → is_text t ≡ inside → Spanned IsTxt text_cmp (λ x. is_eq (text_cmp x t))
+    by true e = one IsTxt text_cmp texts [] refl text_least t (text_after t) e (text_next t e)
+    by false e = change IsTxt text_cmp texts [] refl text_least (λ x. false) (λ x. is_eq (text_cmp x t)) no_texts (λ x v. other x v e (text_cmp x t) refl)
+
+beginning_texts : (p : List ℕ) → Spanned IsTxt text_cmp (λ t. begins_with p (Text t))
+beginning_texts p = by (is_text p) refl
+  where
+    by : (inside : Bool) → is_text p ≡ inside → Spanned IsTxt text_cmp (λ t. starts_with nat_eq t p)
+    by true e = change IsTxt text_cmp texts [] refl text_least (λ t. is_ge (text_cmp t p) && under text_cmp (prefix_end p) t) (λ t. starts_with nat_eq t p)
+        (both IsTxt text_cmp texts [] refl text_least (λ t. is_ge (text_cmp t p)) (λ t. under text_cmp (prefix_end p) t) (from_on IsTxt text_cmp texts [] refl text_least p e) (before_end (prefix_end p) (end_is_text p e)))
+        (λ t v. between p t v)
+    by false e = change IsTxt text_cmp texts [] refl text_least (λ t. false) (λ t. starts_with nat_eq t p) no_texts (λ t v. sym (none_begins p t e v))
 
 -- the texts that meet a condition
-pub texts_asked : (c : Cond) → all_pass is_cell c ≡ true → Spanned IsTxt text_cmp (λ t. meets c (Text t))
+pub texts_asked : (c : Cond) → Spanned IsTxt text_cmp (λ t. meets c (Text t))
 texts_asked = asks IsTxt text_cmp texts [] refl text_least Text less_text same_text beginning_texts

@@ -1,28 +1,19 @@
 -- The laws of settled forms.
 use Rattle.std.specs.Prelude.{◌≡◌, ◌↔◌, ◌&&◌, Bool, true, IsTrue, List, None}
 use Rattle.std.specs.List.{list_all}
-use Rattle.cite_schema.specs.declared.value.Value.{Value}
 use Rattle.cite_schema.specs.declared.schema.Column as schema_column
 use Rattle.cite_schema.specs.declared.query.Query.{Query}
 use Rattle.cite_schema.specs.declared.item.Shown.{Shown}
 use Rattle.cite_schema.specs.declared.item.Shown.TheVariants.{Column, Constant}
-use Rattle.cite_schema.specs.Values.{kind_of, is_text, is_value_of}
+use Rattle.cite_schema.specs.Values.{is_text}
 use Rattle.cite_schema.specs.Headings.{is_heading}
 use Rattle.cite_schema.specs.Answers.{Alike}
 use Rattle.cite_schema.specs.Queries.{asked}
 use Rattle.subset_query.specs.declared.form.Normal.{Normal}
 use Rattle.subset_query.specs.declared.form.Normal.TheVariants as forms
-use Rattle.subset_query.specs.Checks.{all_pass, query_fault}
+use Rattle.subset_query.specs.Checks.{query_fault}
 use Rattle.subset_query.specs.Forms.{formed, IsSettled}
 use Rattle.subset_query.specs.Printed.{printed_form}
-
--- a value that a column of its kind may hold
-abbrev pub is_cell : Value → Bool
-is_cell v = is_value_of (kind_of v) v
-
--- each value in the query's conditions is one
-abbrev pub has_cells : Query → Bool
-has_cells q = list_all (λ o. all_pass is_cell o.cond) q.conds
 
 -- a settled form that gives the query's bytes on every table
 pub record HasForm (columns : List schema_column.Column) (q : Query) : Type 0 where
@@ -32,7 +23,7 @@ pub record HasForm (columns : List schema_column.Column) (q : Query) : Type 0 wh
 
 -- each query without a fault has one
 abbrev pub QueriesHaveAForm : Type 0
-QueriesHaveAForm = (columns : List schema_column.Column) (q : Query) → IsTrue (is_heading columns) → IsTrue (has_cells q) → query_fault columns q ≡ None → HasForm columns q
+QueriesHaveAForm = (columns : List schema_column.Column) (q : Query) → IsTrue (is_heading columns) → query_fault columns q ≡ None → HasForm columns q
 
 -- two settled forms are equal exactly where they give the same bytes on every table
 abbrev pub SettledFormsAreCanonical : Type 0

@@ -6,7 +6,7 @@ pub fn settled_forms_are_canonical()
     ensures { SettledFormsAreCanonical }
 {}
 
-/// Each query without a fault whose values are values of columns has a settled form that gives its bytes on every table.
+/// Each query without a fault has a settled form that gives its bytes on every table.
 pub fn queries_have_a_form()
     ensures { QueriesHaveAForm }
 {}
