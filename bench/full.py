@@ -8,33 +8,21 @@ Behind the last batch come one that adds a row and one that changes one, which a
 which is accepted, since a row that ends stays kept. `verify` then opens the archive. Times are the program's own processor
 time, memory is the largest resident set.
 """
-import os
 import pathlib
 import resource
-import subprocess
 import sys
 import tempfile
 
-TOP = pathlib.Path(__file__).resolve().parent.parent
-PROGRAM = os.environ.get("FULL_PROGRAM", TOP / "crates" / "cite_prog" / "out" / "cite_prog")
+from service import built, message, run
+
+PROGRAM = built("FULL_PROGRAM")
 WORDS = ["init", "10.5072", "Lab", "Rey, A.", "Depths", "sid:int", "site:text", "depth:int"]
 HEADER = "op,sid,site,depth\n"
 
 
 def batch(number, lines):
     """Returns the message of a batch of these lines."""
-    body = HEADER + lines
-    return f"POST /batch/1/ann/{number} HTTP/1.1\r\nContent-Length: {len(body)}\r\n\r\n{body}".encode()
-
-
-def run(archive, words, text=b""):
-    """Runs the program to its end, and returns what it wrote and its processor time in seconds."""
-    before = resource.getrusage(resource.RUSAGE_CHILDREN)
-    done = subprocess.run([PROGRAM, archive, *words], input=text, capture_output=True)
-    after = resource.getrusage(resource.RUSAGE_CHILDREN)
-    if done.returncode != 0:
-        sys.exit(f"{words[0]} ended with status {done.returncode}: {done.stdout[-300:]}")
-    return done.stdout, after.ru_utime - before.ru_utime + after.ru_stime - before.ru_stime
+    return message(f"/batch/1/ann/{number}", HEADER + lines)
 
 
 def filling(batches, lines):
@@ -49,17 +37,17 @@ def main():
     rows = batches * lines
     with tempfile.TemporaryDirectory() as folder:
         archive = pathlib.Path(folder) / "archive"
-        run(archive, WORDS)
-        told, seconds = run(archive, ["session"], b"".join(filling(batches, lines)))
+        run(PROGRAM, archive, WORDS)
+        told, seconds = run(PROGRAM, archive, ["session"], b"".join(filling(batches, lines)))
         if told.count(b"HTTP/1.1 201 ") != batches:
             sys.exit(f"not every batch was stored: {told[-300:]}")
         more = [batch(batches + 1, f"+,{rows},new,1\n"), batch(batches + 1, "~,7,new,1\n"), batch(batches + 1, "-,7,,\n")]
-        told, _ = run(archive, ["session"], b"".join(more))
+        told, _ = run(PROGRAM, archive, ["session"], b"".join(more))
         answers = told.split(b"HTTP/1.1 ")[1:]
         wanted = [(b"422 ", b"Full 1"), (b"422 ", b"Full 1"), (b"201 ", b"")]
         if len(answers) != 3 or not all(a.startswith(status) and word in a for a, (status, word) in zip(answers, wanted)):
             sys.exit(f"at the limit it answered otherwise: {told}")
-        told, opening = run(archive, ["verify"])
+        told, opening = run(PROGRAM, archive, ["verify"])
         if f"rows {rows - 1}\n".encode() not in told:
             sys.exit(f"verify told other rows: {told[-300:]}")
     memory = resource.getrusage(resource.RUSAGE_CHILDREN).ru_maxrss * 1024

@@ -10,21 +10,14 @@ of all rows, each with a label of its own. At the end `verify` opens each archiv
 the one that it had before the migrations.
 """
 import json
-import os
 import pathlib
-import resource
-import subprocess
 import sys
 import tempfile
 
-TOP = pathlib.Path(__file__).resolve().parent.parent
-PROGRAM = os.environ.get("HARMLESS_PROGRAM", TOP / "crates" / "cite_prog" / "out" / "cite_prog")
+from service import built, message, run
+
+PROGRAM = built("HARMLESS_PROGRAM")
 WORDS = ["init", "10.5072", "Lab", "Rey, A.", "Depths", "sid:int", "depth:int", "site:text"]
-
-
-def message(path, body):
-    """Returns a message that posts the body."""
-    return f"POST {path} HTTP/1.1\r\nContent-Length: {len(body)}\r\n\r\n{body}".encode()
 
 
 def rows(count):
@@ -51,19 +44,9 @@ def renamed(count):
     return [migration(schema, step) for schema, step in enumerate(steps, 1)]
 
 
-def run(archive, words, text=b""):
-    """Runs the program to its end, and returns what it wrote and its processor time in seconds."""
-    before = resource.getrusage(resource.RUSAGE_CHILDREN)
-    done = subprocess.run([PROGRAM, archive, *words], input=text, capture_output=True)
-    after = resource.getrusage(resource.RUSAGE_CHILDREN)
-    if done.returncode != 0:
-        sys.exit(f"{words[0]} ended with status {done.returncode}: {done.stdout[-300:]}")
-    return done.stdout, after.ru_utime - before.ru_utime + after.ru_stime - before.ru_stime
-
-
 def session(archive, messages):
     """Plays messages, each of which has to make an entry, and returns the processor time."""
-    told, seconds = run(archive, ["session"], b"".join(messages))
+    told, seconds = run(PROGRAM, archive, ["session"], b"".join(messages))
     if told.count(b"HTTP/1.1 201 ") != len(messages):
         sys.exit(f"not every message made an entry: {told[:300]}")
     return seconds
@@ -71,14 +54,14 @@ def session(archive, messages):
 
 def citations_of(archive):
     """Returns the lines that `verify` tells of citations, and its time."""
-    told, seconds = run(archive, ["verify"])
+    told, seconds = run(PROGRAM, archive, ["verify"])
     return [line for line in told.splitlines() if line.startswith(b"c") and not line.startswith(b"citations")], seconds
 
 
 def measured(folder, row_count, cited, moves):
     """Fills an archive, migrates it, and returns the processor times of the migrations, of opening before them and behind them."""
     archive = folder / f"archive_{cited}"
-    run(archive, WORDS)
+    run(PROGRAM, archive, WORDS)
     session(archive, [rows(row_count), *(citation(label) for label in range(cited))])
     before, opening = citations_of(archive)
     moving = session(archive, moves) - opening

@@ -11,61 +11,36 @@ that scale the depth; the citation is carried through each step of them, and the
 program's own processor time, and the digest of the citation has to be the same at the end.
 """
 import json
-import os
 import pathlib
-import subprocess
 import sys
 import tempfile
 
-TOP = pathlib.Path(__file__).resolve().parent.parent
-PROGRAM = os.environ.get("MIGRATION_PROGRAM", TOP / "crates" / "cite_prog" / "out" / "cite_prog")
+from service import Session, built, message, run
+
+PROGRAM = built("MIGRATION_PROGRAM")
 WORDS = ["init", "10.5072", "Lab", "Rey, A.", "Depths", "sid:int", "depth:int"]
 STEPS = 16
 # How many migrations are timed together: the system counts processor time in hundredths of a second.
 TIMED = 40
 
 
-class Session:
-    """A session of the program, which answers one message after the other."""
+class Moving:
+    """A session that migrates its archive again and again."""
 
     def __init__(self, archive):
-        self.process = subprocess.Popen([PROGRAM, archive, "session"], stdin=subprocess.PIPE, stdout=subprocess.PIPE)
+        self.session = Session(PROGRAM, archive)
         self.schema = 1
 
-    def post(self, path, body):
-        """Sends a message that has to make an entry."""
-        text = f"POST {path} HTTP/1.1\r\nContent-Length: {len(body)}\r\n\r\n{body}"
-        self.process.stdin.write(text.encode())
-        self.process.stdin.flush()
-        status = self.process.stdout.readline()
-        length = 0
-        while (line := self.process.stdout.readline()) not in (b"\r\n", b""):
-            if line.lower().startswith(b"content-length:"):
-                length = int(line.split(b":")[1])
-        told = self.process.stdout.read(length)
-        if not status.startswith(b"HTTP/1.1 201 "):
-            sys.exit(f"{path} was answered by {status} {told[:300]}")
-
     def migrate(self, steps):
-        self.post(f"/migrate/{self.schema}", json.dumps(steps))
+        self.session.ask(message(f"/migrate/{self.schema}", json.dumps(steps)))
         self.schema += 1
-
-    def seconds(self):
-        """Returns the processor time of the program until now."""
-        fields = pathlib.Path(f"/proc/{self.process.pid}/stat").read_text().rpartition(")")[2].split()
-        return (int(fields[11]) + int(fields[12])) / os.sysconf("SC_CLK_TCK")
 
     def timed(self, steps_of):
         """Returns the mean time of some migrations, of which each has the steps that it gives."""
-        before = self.seconds()
+        before = self.session.seconds()
         for turn in range(TIMED):
             self.migrate(steps_of(turn))
-        return (self.seconds() - before) / TIMED
-
-    def end(self):
-        self.process.stdin.close()
-        if self.process.wait() != 0:
-            sys.exit("the session did not end well")
+        return (self.session.seconds() - before) / TIMED
 
 
 class Recoding:
@@ -89,7 +64,7 @@ def scaling(turn):
 
 def citation_of(archive):
     """Returns the line that `verify` tells of the citation."""
-    told = subprocess.run([PROGRAM, archive, "verify"], capture_output=True, check=True).stdout
+    told, _ = run(PROGRAM, archive, ["verify"])
     return next(line for line in told.splitlines() if line.startswith(b"c1 "))
 
 
@@ -98,24 +73,22 @@ def main():
     query = {"items": [{"column": "sid"}], "where": {"depth": {"ge": 0}}}
     with tempfile.TemporaryDirectory() as folder:
         archive = pathlib.Path(folder) / "archive"
-        subprocess.run([PROGRAM, archive, *WORDS], capture_output=True, check=True)
-        session, recoding = Session(archive), Recoding()
-        session.post("/batch/1/ann/1", "op,sid,depth\n+,1,0\n")
-        session.post("/cite", json.dumps({"meta": {"creators": ["Rey, A."], "title": "Deep"}, "query": query}))
-        session.end()
+        cite = message("/cite", json.dumps({"meta": {"creators": ["Rey, A."], "title": "Deep"}, "query": query}))
+        run(PROGRAM, archive, WORDS)
+        run(PROGRAM, archive, ["session"], message("/batch/1/ann/1", "op,sid,depth\n+,1,0\n") + cite)
         before = citation_of(archive)
-        session = Session(archive)
+        moving, recoding = Moving(archive), Recoding()
         for mark in marks:
             while recoding.taken + STEPS < mark:
-                session.migrate(recoding.next())
-            recoded = session.timed(recoding.next)
-            scaled = session.timed(scaling)
+                moving.migrate(recoding.next())
+            recoded = moving.timed(recoding.next)
+            scaled = moving.timed(scaling)
             print(
                 f"{recoding.taken} spans, each migration of {STEPS} steps: recoding {1e3 * recoded:.1f} ms, "
                 f"{1e9 * recoded / STEPS / mark:.1f} ns a span and step; scaling {1e3 * scaled:.1f} ms, {1e9 * scaled / STEPS / mark:.1f} ns",
                 flush=True,
             )
-        session.end()
+        moving.session.end()
         if citation_of(archive) != before:
             sys.exit("the citation gives other bytes")
 

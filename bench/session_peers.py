@@ -19,9 +19,10 @@ import hashlib
 import json
 import pathlib
 import sqlite3
-import subprocess
 import sys
 import time
+
+from service import Session, message, run
 
 LINES = 20_000
 DEPTHS = 1000
@@ -39,34 +40,17 @@ def change_body(key, turn):
     return f"op,sid,site,depth\n~,{key},moved {turn},{key % DEPTHS}\n"
 
 
-class Session:
+class Program:
     """The program, over pipes."""
 
     def __init__(self, program, folder):
         archive = folder / "archive"
         archive.unlink(missing_ok=True)
-        words = ["init", "10.5072", "Lab", "Rey, A.", "Depths", "sid:int", "site:text", "depth:int"]
-        subprocess.run([program, archive, *words], check=True, stdout=subprocess.DEVNULL)
-        self.process = subprocess.Popen(
-            [program, archive, "session"], stdin=subprocess.PIPE, stdout=subprocess.PIPE
-        )
-
-    def ask(self, head, body=b""):
-        """Returns the body of the response to a message."""
-        self.process.stdin.write(f"{head} HTTP/1.1\r\nContent-Length: {len(body)}\r\n\r\n".encode() + body)
-        self.process.stdin.flush()
-        status = self.process.stdout.readline()
-        length = 0
-        while (line := self.process.stdout.readline()) != b"\r\n":
-            if line.startswith(b"Content-Length: "):
-                length = int(line[16:])
-        answer = self.process.stdout.read(length)
-        if status[9:12] not in (b"200", b"201"):
-            sys.exit(f"session_peers.py: {head} was answered by {status} {answer}")
-        return answer
+        run(program, archive, ["init", "10.5072", "Lab", "Rey, A.", "Depths", "sid:int", "site:text", "depth:int"])
+        self.session = Session(program, archive)
 
     def batch(self, number, body):
-        self.ask(f"POST /batch/1/ann/{number}", body.encode())
+        self.session.ask(message(f"/batch/1/ann/{number}", body))
 
     def cite(self, depth):
         return self.cite_rows(f"Depth {depth}", {"where": {"depth": {"eq": depth}}})
@@ -77,16 +61,14 @@ class Session:
     def cite_rows(self, title, rest):
         query = {"items": [{"column": "sid"}, {"column": "site"}], **rest}
         meta = {"creators": ["Rey, A."], "title": title}
-        answer = self.ask("POST /cite", json.dumps({"meta": meta, "query": query}).encode())
+        answer = self.session.ask(message("/cite", json.dumps({"meta": meta, "query": query})))
         return json.loads(answer)["id"]
 
     def resolve(self, name):
-        return self.ask(f"GET /id/{name}/data")
+        return self.session.ask(f"GET /id/{name}/data HTTP/1.1\r\n\r\n".encode())
 
     def end(self):
-        self.process.stdin.close()
-        if self.process.wait() != 0:
-            sys.exit("session_peers.py: the session did not end well")
+        self.session.end()
 
 
 class Tables:
@@ -204,7 +186,7 @@ def main():
     counts = {"batches": batches, "changes": changes, "citations": citations, "resolves": 10 * citations, "wide": 10}
     best, digests = {}, set()
     for _ in range(runs):
-        for name, peer in (("session", Session(program, folder)), ("sqlite3", Tables(folder))):
+        for name, peer in (("session", Program(program, folder)), ("sqlite3", Tables(folder))):
             parts, digest = played(peer, bodies, lines, citations)
             digests.add(digest)
             for part, seconds in parts.items():
